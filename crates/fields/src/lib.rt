@@ -23,14 +23,18 @@ pub fn be16(s: &[u8], at: usize) -> u32
     requires { ⌜ at + 2 ≤ length (now s) ⌝ }
     ensures { λ r. ⌜ r ≡ beAt (now (s .entry)) at 2 ⌝ }
 {
-    be8(s, at) * 256 + be8(s, at + 1)
+    let high = be8(s, at);
+    let low = be8(s, at + 1);
+    high * 256 + low
 }
 
 pub fn be32(s: &[u8], at: usize) -> u32
     requires { ⌜ at + 4 ≤ length (now s) ⌝ }
     ensures { λ r. ⌜ r ≡ beAt (now (s .entry)) at 4 ⌝ }
 {
-    be16(s, at) * 65536 + be16(s, at + 2)
+    let high = be16(s, at);
+    let low = be16(s, at + 2);
+    high * 65536 + low
 }
 
 pub fn be64(s: &[u8], at: usize) -> u64

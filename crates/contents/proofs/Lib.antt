@@ -1,0 +1,6 @@
+pub mod TestLaws
+pub mod ItemLaws
+pub mod PropertyLaws
+pub mod ReferenceLaws
+pub mod FileLaws
+pub mod ReadLaws

@@ -1,0 +1,32 @@
+-- What tests joined by "and" or "or" tell, and a test of membership. Assumes nothing.
+use Prim.Native.Nat.{ℕ}
+use native.Mathlib.Omega.{arith}
+use mathlib.Core.Path.{_≡_, refl, sym, subst}
+use mathlib.Core.List.{List, [], _∷_}
+use mathlib.Core.Bool.{Bool, true, false, _&&_, _||_}
+use mathlib.Core.Logic.{_⊎_, inl, inr}
+use lib.Dec.{eqb}
+use borrow.Author.Tests.{eqb-true}
+use Rattle.fields.specs.Lists.{member, All}
+
+-- _&&_
+pub and-both : (a b : Bool) → (a && b) ≡ true → (a ≡ true) × (b ≡ true)
+and-both true b e = (refl, e)
+and-both false b e = let z : _≡_ {A = ℕ} 0 1 = cc in absurd (omega arith)
+
+pub both-and : (a b : Bool) → a ≡ true → b ≡ true → (a && b) ≡ true
+both-and a b e f = rw (e, f)
+
+-- _||_
+pub or-either : (a b : Bool) → (a || b) ≡ true → (a ≡ true) ⊎ (b ≡ true)
+or-either true b e = inl refl
+or-either false b e = inr e
+
+-- member: what holds of all of a list holds of each member
+pub member-all : (Q : ℕ → Type 0) (l : List ℕ) → All Q l → (k : ℕ) → member k l ≡ true → Q k
+member-all Q [] a k e = let z : _≡_ {A = ℕ} 0 1 = cc in absurd (omega arith)
+member-all Q (x ∷ xs) a k e = by (or-either (eqb k x) _ e) (member-all Q xs (a .1) k)
+  where
+    by : (eqb k x ≡ true) ⊎ (member k xs ≡ true) → (member k xs ≡ true → Q k) → Q k
+    by (inl h) rec = subst Q (sym (eqb-true k x h)) (a .0)
+    by (inr h) rec = rec h

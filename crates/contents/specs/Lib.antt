@@ -1,0 +1,11 @@
+pub mod Full
+pub mod Hdlr
+pub mod Pitm
+pub mod Iinf
+pub mod Iloc
+pub mod Ipco
+pub mod Ipma
+pub mod Iprp
+pub mod Iref
+pub mod File
+pub mod Keeps

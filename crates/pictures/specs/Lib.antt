@@ -1,0 +1,10 @@
+pub mod Turn
+pub mod Signed
+pub mod Clap
+pub mod Decode
+pub mod Recipe
+pub mod Scene
+pub mod Depth
+pub mod Trace
+pub mod Sources
+pub mod GoodScene

@@ -1,0 +1,7 @@
+pub mod Joined
+pub mod Bytes
+pub mod Derivations
+pub mod Rules
+pub mod Places
+pub mod Words
+pub mod Questions

@@ -1,0 +1,114 @@
+-- Table words: document 01, "Table words". The table is the file's spelling in 32-bit words; "Order is file order (items: `iinf`)".
+--   tableWords       how many words the table of a file has
+--   wordsOf total head f     the words of an accepted file
+--   after            what a call leaves in the table
+use Prim.Native.Nat.{ℕ, zero, suc, _+_, _*_, _-_, _/_, _%_}
+use mathlib.Core.List.{List, [], _∷_, _++_, map}
+use mathlib.Core.Bool.{Bool, true, false}
+use lib.ListN.{length, replicate, drop}
+use lib.Dec.{leb, eqb}
+use Rattle.fields.specs.Choice.{pick}
+use Rattle.boxes.specs.Answer.{Answer, ok, refuse}
+use Rattle.boxes.specs.Types.{image}
+use Rattle.boxes.specs.Box.{kindOf}
+use Rattle.contents.specs.Iinf.{Item}
+use Rattle.contents.specs.Iloc.{Extent, Location}
+use Rattle.contents.specs.Ipma.{Association, Named}
+use Rattle.contents.specs.Iref.{Derivation}
+use Rattle.contents.specs.File.{File}
+use Rattle.pictures.specs.declared.Size.{Size}
+use Rattle.pictures.specs.Scene.{Picture, Scene, pictureAt, outputOf}
+use Rattle.pictures.specs.Depth.{depth}
+use Rattle.rules.specs.Joined.{locationOf, associationsOf, targetsOf}
+use Rattle.rules.specs.Places.{Places, placesIn, propertyOffset, fileOffset}
+use Rattle.rules.specs.Derivations.{sceneOf}
+
+abbrev pub tableWords : ℕ
+tableWords = 11280
+
+-- one list after another
+unfoldable pub joinAll : {A : Type 0} → (A → List ℕ) → List A → List ℕ
+joinAll f [] = []
+joinAll f (x ∷ xs) = f x ++ joinAll f xs
+
+-- "Unused words are 0.": the words of a region of n words
+unfoldable pub region : ℕ → List ℕ → List ℕ
+region n ws = ws ++ replicate (n - length ws) 0
+
+-- a 64-bit number: high, low
+abbrev pub highLow : ℕ → List ℕ
+highLow x = x / 4294967296 ∷ x % 4294967296 ∷ []
+
+-- how many records stand before those of an item, in lists of (ID, how many) in file order
+pub record Group : Type 0 where
+  pub id : ℕ
+  pub count : ℕ
+
+unfoldable pub firstIn : ℕ → ℕ → List Group → ℕ
+firstIn id n [] = 0
+firstIn id n (g ∷ gs) = pick (eqb (g .id) id) n (firstIn id (n + g .count) gs)
+
+-- first and count: "A first index with count 0 is 0."
+abbrev pub span : ℕ → List Group → ℕ → List ℕ
+span id gs count = pick (eqb count 0) 0 (firstIn id 0 gs) ∷ count ∷ []
+
+abbrev pub namedGroups : List Named → List Group
+namedGroups ns = map (λ (n : Named). record { id = n .id; count = length (n .list) }) ns
+
+abbrev pub derivedGroups : List Derivation → List Group
+derivedGroups ds = map (λ (d : Derivation). record { id = d .id; count = length (d .targets) }) ds
+
+abbrev pub locatedGroups : List Location → List Group
+locatedGroups ls = map (λ (l : Location). record { id = l .id; count = length (l .extents) }) ls
+
+unfoldable pub totalOf : List Group → ℕ
+totalOf [] = 0
+totalOf (g ∷ gs) = g .count + totalOf gs
+
+-- "reconstructed width, height, output width, height, depth"; "Opaque items have 0 in the size and depth words."
+unfoldable pub sizeWords : Scene → ℕ → Item → List ℕ
+sizeWords s r i =
+    pick (image (i .type))
+    (pictureAt s r .declared .wide ∷ pictureAt s r .declared .high ∷ outputOf (pictureAt s r) .wide ∷ outputOf (pictureAt s r) .high ∷ depth s r ∷ [])
+    (replicate 5 0)
+
+-- "ID, type, hidden, first association, count, first target, count, first extent, count, method, reconstructed width, height, output width, height, depth, 0"
+unfoldable pub itemWords : File → Scene → ℕ → Item → List ℕ
+itemWords f s r i =
+    (i .id ∷ i .type ∷ i .hidden ∷ [])
+    ++ (span (i .id) (namedGroups (f .associations)) (length (associationsOf f (i .id)))
+    ++ (span (i .id) (derivedGroups (f .derivations)) (length (targetsOf f (i .id)))
+    ++ (span (i .id) (locatedGroups (f .locations)) (length (locationOf f (i .id) .extents))
+    ++ ((locationOf f (i .id) .method ∷ []) ++ (sizeWords s r i ++ (0 ∷ []))))))
+
+unfoldable pub recordsFrom : File → Scene → ℕ → List Item → List ℕ
+recordsFrom f s r [] = []
+recordsFrom f s r (i ∷ is) = itemWords f s r i ++ recordsFrom f s (suc r) is
+
+-- "type, offset, size, 0"
+unfoldable pub propertiesFrom : ℕ → List (List ℕ) → List ℕ
+propertiesFrom at [] = []
+propertiesFrom at (b ∷ bs) = (kindOf b ∷ at ∷ length b ∷ 0 ∷ []) ++ propertiesFrom (at + length b) bs
+
+-- "index plus 32,768 if essential"
+abbrev pub associationWord : Association → ℕ
+associationWord a = a .index + pick (a .essential) 32768 0
+
+-- "file offset high, low, length high, low"
+abbrev pub extentWords : Places → Location → Extent → List ℕ
+extentWords pl l e = highLow (fileOffset pl l e) ++ highLow (e .size)
+
+-- "0 to 15: item, property, association, target and extent counts; primary ID; total high, low; rest 0."
+abbrev pub headWords : ℕ → File → List ℕ
+headWords total f =
+    (length (f .items) ∷ length (f .properties) ∷ totalOf (namedGroups (f .associations)) ∷ totalOf (derivedGroups (f .derivations)) ∷ totalOf (locatedGroups (f .locations)) ∷ f .primary ∷ []) ++ highLow total
+
+-- "From 16, 256 item records of 16 words"; "From 4,112, 256 properties of 4"; "From 5,136, 2,048 associations"; "From 7,184, 2,048 targets, as item IDs"; "From 9,232, 512 extents of 4"
+unfoldable pub wordsOf : ℕ → List ℕ → File → List ℕ
+wordsOf total head f =
+    region 16 (headWords total f)
+    ++ (region 4096 (recordsFrom f (sceneOf total head f) 0 (f .items))
+    ++ (region 1024 (propertiesFrom (placesIn total head .properties) (f .properties))
+    ++ (region 2048 (joinAll (λ (n : Named). map (λ (a : Association). associationWord a) (n .list)) (f .associations))
+    ++ (region 2048 (joinAll (λ (d : Derivation). d .targets) (f .derivations))
+    ++ region 2048 (joinAll (λ (l : Location). joinAll (λ (e : Extent). extentWords (placesIn total head) l e) (l .extents)) (f .locations))))))
