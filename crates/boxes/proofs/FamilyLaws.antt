@@ -1,18 +1,18 @@
 -- The children of `meta` by name, one box at a time: what the loop over them uses. Assumes nothing.
-use Prim.Native.Nat.{ℕ, zero, suc, _+_, _-_, _≤_, _<_}
+use Prim.Native.Nat.{ℕ, suc, _+_, _-_, _≤_, _<_}
 use native.Mathlib.Omega.{arith}
 use mathlib.Core.Path.{_≡_, refl, sym, ap, _∙_, subst}
 use mathlib.Core.List.{List, [], _∷_, _++_, map, append-assoc, append-nil}
-use mathlib.Core.Bool.{Bool, true, false, _&&_, _||_, not}
+use mathlib.Core.Bool.{Bool, true, false, _||_}
 use lib.ListN.{length, getD, set, take, drop, replicate, length-append}
 use lib.Dec.{eqb}
-use borrow.Author.Tests.{eqb-true, eqb-false, eq-eqb, ne-eqb}
+use borrow.Author.Tests.{eqb-true, eqb-false, ne-eqb}
 use Rattle.fields.specs.Choice.{pick}
 use Rattle.fields.specs.Lists.{member, All}
 use Rattle.boxes.specs.Answer.{Answer, ok, refuse, check, _>>=_, _>>_}
 use Rattle.boxes.specs.Box.{headOf, kindOf, IsBox, flat}
 use Rattle.boxes.specs.Children.{ofKind, filled, once, children}
-use Rattle.boxes.specs.Where.{Where, nowhere, stands, whereOf}
+use Rattle.boxes.specs.Where.{Where, stands, whereOf}
 use Rattle.boxes.specs.Header.{childAt}
 use Rattle.boxes.specs.Family.{family, known, rank, slotOf, toldWalk, spotOf, spotsOf}
 use Rattle.boxes.specs.declared.Spot.{Spot}
@@ -20,7 +20,7 @@ use Rattle.boxes.specs.declared.Child.the-variants as child
 use Rattle.boxes.specs.declared.Walked.{Walked}
 use Rattle.boxes.specs.declared.Walked.the-variants as walked
 use Rattle.boxes.proofs.BoxLaws.{head-least}
-use Rattle.boxes.proofs.ChildLaws.{of-yes, of-no, of-nil, New, once-complete, nil-filled}
+use Rattle.boxes.proofs.ChildLaws.{of-yes, of-no, of-nil, once-complete}
 use Rattle.boxes.proofs.WhereLaws.{where-yes, where-no}
 use Rattle.boxes.proofs.ContainLaws.{childrenFrom, Stood, stood, from-box, from-bad, from-spare, from-end}
 

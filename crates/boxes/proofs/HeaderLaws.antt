@@ -1,17 +1,17 @@
 -- The header at a place of a slice, and what it says of the box there. Assumes nothing.
 use Prim.Native.Nat.{ℕ, _+_, _-_, _≤_, _<_}
 use native.Mathlib.Omega.{arith}
-use mathlib.Core.Path.{_≡_, refl, sym, ap, _∙_}
+use mathlib.Core.Path.{_≡_, refl, sym, _∙_}
 use mathlib.Core.List.{List}
 use mathlib.Core.Bool.{Bool, true, false, _&&_}
 use lib.ListN.{length, drop, length-drop}
 use lib.Dec.{leb, ltb}
-use borrow.Author.Tests.{le-ltb, lt-ltb, le-leb, lt-leb, eq-eqb, ne-eqb, ltb-true, ltb-false, leb-true}
+use borrow.Author.Tests.{le-ltb, lt-ltb, le-leb, eq-eqb, ne-eqb, ltb-true, ltb-false, leb-true}
 use Rattle.fields.specs.Choice.{pick}
 use Rattle.fields.specs.Field.{beAt}
 use Rattle.fields.proofs.FieldLaws.{be-from, be-drop}
 use Rattle.boxes.specs.Box.{headOf, sizeOf, kindOf, starts}
-use Rattle.boxes.specs.Top.{Look, short, bad, past, good, fit, look}
+use Rattle.boxes.specs.Top.{past, good, fit, look}
 use Rattle.boxes.specs.Header.{headerOf, childAt, ending, seen, topBoxAt}
 use Rattle.boxes.specs.declared.Header.the-variants as header
 use Rattle.boxes.specs.declared.Child.the-variants as child

@@ -3,17 +3,17 @@ use Prim.Native.Nat.{ℕ, zero, suc, _+_, _-_, _≤_, _<_}
 use native.Mathlib.Omega.{arith}
 use mathlib.Core.Path.{_≡_, refl, sym, ap, _∙_, subst}
 use mathlib.Core.List.{List, [], _∷_, _++_, append-assoc, append-nil}
-use mathlib.Core.Bool.{Bool, true, false, _&&_}
+use mathlib.Core.Bool.{Bool, true, false}
 use mathlib.Core.Logic.{_⊎_, inl, inr}
 use lib.ListN.{length, take, drop, length-append, length-drop, take-append-drop, drop-of-length-le}
 use lib.Seq.{take-at, drop-at, take-all}
-use lib.Dec.{leb, ltb, eqb}
+use lib.Dec.{eqb}
 use borrow.Author.Tests.{leb-true, ltb-true, ltb-false, le-leb, le-ltb, eq-eqb, ne-eqb, eqb-true, eqb-false}
 use Rattle.fields.specs.Choice.{pick}
 use Rattle.fields.specs.Field.{beAt}
 use Rattle.fields.specs.Lists.{All}
 use Rattle.fields.proofs.FieldLaws.{both, be-front}
-use Rattle.boxes.specs.Answer.{Answer, ok, refuse, check, _>>_}
+use Rattle.boxes.specs.Answer.{ok, refuse, check, _>>_}
 use Rattle.boxes.specs.Types.{meta}
 use Rattle.boxes.specs.Box.{headOf, sizeOf, kindOf, IsBox, flat, starts}
 use Rattle.boxes.specs.Top.{Look, short, bad, past, good, fit, look, branded, Spot, byKind, byLook, walkN, walk, byFirst, metaIn, FirstMeta}

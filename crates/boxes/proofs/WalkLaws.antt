@@ -7,14 +7,14 @@ use mathlib.Core.Bool.{Bool, true, false, _&&_}
 use lib.ListN.{length, getD, take, drop, length-take, length-drop, List·getD-eq-default}
 use lib.Seq.{getD-take, drop-drop, length-take-le, take-nil}
 use lib.Dec.{ltb, eqb}
-use borrow.Author.Tests.{ltb-true, ltb-false, eq-eqb, ne-eqb, eqb-true, eqb-false}
+use borrow.Author.Tests.{ltb-true, ltb-false, eqb-false}
 use Rattle.fields.specs.Field.{beAt}
 use Rattle.fields.specs.Lists.{member}
 use Rattle.fields.proofs.FieldLaws.{be-take}
-use Rattle.boxes.specs.Answer.{Answer, ok, refuse, check, _>>_}
+use Rattle.boxes.specs.Answer.{ok, refuse, check, _>>_}
 use Rattle.boxes.specs.Types.{ftyp, mif1, meta}
-use Rattle.boxes.specs.Box.{headOf, sizeOf, kindOf, bodyOf, starts}
-use Rattle.boxes.specs.Top.{Look, short, bad, past, good, look, words, brands, branded, Spot, byKind, byLook, walkN, walk, byFirst, metaIn}
+use Rattle.boxes.specs.Box.{headOf, kindOf, bodyOf}
+use Rattle.boxes.specs.Top.{Look, short, bad, past, good, look, words, brands, branded, byKind, byLook, walkN, walk, byFirst, metaIn}
 use Rattle.boxes.specs.Header.{seen, topBoxAt}
 use Rattle.boxes.specs.Family.{toldMeta}
 use Rattle.boxes.specs.declared.TopBox.{TopBox}

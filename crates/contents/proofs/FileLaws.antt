@@ -18,7 +18,7 @@ use Rattle.contents.specs.Iinf.{idsOf}
 use Rattle.contents.specs.Iloc.{iloc-form}
 use Rattle.contents.specs.File.{File, contentsOf, fileOf}
 use Rattle.contents.specs.Keeps.{Spelled, Children, Keeps}
-use Rattle.contents.proofs.TestLaws.{member-all}
+use Rattle.fields.proofs.TestLaws.{member-all}
 use Rattle.contents.proofs.ItemLaws.{items-sound, items-complete}
 use Rattle.contents.proofs.PropertyLaws.{shown-sound, shown-complete}
 use Rattle.contents.proofs.ReferenceLaws.{referred-sound, referred-complete}

@@ -1,4 +1,4 @@
-pub mod TestLaws
+pub mod FullLaws
 pub mod ItemLaws
 pub mod PropertyLaws
 pub mod ReferenceLaws

@@ -22,7 +22,7 @@ use Rattle.contents.specs.Ipco.{ispe-form, bytes-form, held, property, H
 use Rattle.contents.specs.Ipma.{ipma-form}
 use Rattle.contents.specs.Iprp.{Shown, Pair, anyBox, pairOf, shown}
 use Rattle.contents.specs.Keeps.{Properties, Shows}
-use Rattle.contents.proofs.TestLaws.{and-both, both-and, or-either}
+use Rattle.fields.proofs.TestLaws.{and-both, both-and, or-either}
 
 -- held
 pub held-sound : (k p : ℕ) (s : List ℕ) → held k p s ≡ ok tt → Held k s

@@ -11,7 +11,7 @@ use Rattle.boxes.proofs.TopLaws.{meta-sound, meta-complete}
 use Rattle.boxes.proofs.AnswerLaws.{bind-ok, ok-bind, then-ok, ok-then, check-ok, ok-check, ok-inj}
 use Rattle.contents.specs.File.{File, readFile}
 use Rattle.contents.specs.Keeps.{FileIn}
-use Rattle.contents.proofs.TestLaws.{and-both, both-and}
+use Rattle.fields.proofs.TestLaws.{and-both, both-and}
 use Rattle.contents.proofs.FileLaws.{file-sound, file-complete}
 
 -- readFile

@@ -9,3 +9,4 @@ pub mod Iprp
 pub mod Iref
 pub mod File
 pub mod Keeps
+pub mod Told

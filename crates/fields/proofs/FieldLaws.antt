@@ -83,6 +83,11 @@ be-drop s k i (suc n) = rw (be-drop s k i n, getD-drop k s (i + n) 0, add-assoc 
 pub be-from : (s : List ℕ) (k n : ℕ) → beAt (drop k s) 0 n ≡ beAt s k n
 be-from s k n = be-drop s k 0 n ∙ (let e : k + 0 ≡ k = omega arith in ap (λ (i : ℕ). beAt s i n) e)
 
+-- the other of an ID's two widths
+pub four : (n : ℕ) → (n ≡ 2) ⊎ (n ≡ 4) → (n ≡ 2 → ⊥) → n ≡ 4
+four n (inl h) a = absurd (a h)
+four n (inr h) a = h
+
 -- the third of `iloc`'s three widths
 pub eight : (n : ℕ) → (n ≡ 0) ⊎ ((n ≡ 4) ⊎ (n ≡ 8)) → (n ≡ 0 → ⊥) → (n ≡ 4 → ⊥) → n ≡ 8
 eight n (inl h) a b = absurd (a h)

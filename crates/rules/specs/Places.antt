@@ -11,7 +11,7 @@ use Rattle.fields.specs.Choice.{pick}
 use Rattle.boxes.specs.Answer.{Answer, ok, refuse}
 use Rattle.boxes.specs.Types.{iprp, idat}
 use Rattle.boxes.specs.Box.{headOf, bodyOf, flat, Cut, cut}
-use Rattle.boxes.specs.Children.{ofKind, placeOf}
+use Rattle.boxes.specs.Children.{ofKind, filled, placeOf}
 use Rattle.boxes.specs.Top.{Spot, metaIn}
 use Rattle.contents.specs.Iloc.{Extent, Location}
 use Rattle.contents.specs.File.{File}
@@ -24,12 +24,12 @@ pub record Places : Type 0 where
 abbrev pub firstOf : ℕ → List (List ℕ) → List ℕ
 firstOf k bs = getD (ofKind k bs) 0 []
 
--- bs the children of `meta`, the first of them at `at`. `ipco` is the first box in `iprp`.
+-- bs the children of `meta`, the first of them at `at`. `ipco` is the first box in `iprp`. Where there is no `idat` nothing begins in it: 0.
 unfoldable pub placesAt : ℕ → List (List ℕ) → Places
 placesAt at bs =
     record {
       properties = placeOf iprp at bs + headOf (firstOf iprp bs) + headOf (bodyOf (firstOf iprp bs));
-      idat = placeOf idat at bs + headOf (firstOf idat bs);
+      idat = pick (filled (ofKind idat bs)) (placeOf idat at bs + headOf (firstOf idat bs)) 0;
     }
 
 -- the children of `meta` begin 4 bytes into its content

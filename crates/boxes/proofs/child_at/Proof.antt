@@ -1,6 +1,5 @@
 use Rattle.boxes.proofs.HeaderLaws.{says, says-none, says-room, child-whole, child-bad, child-end, child-spare}
 use mathlib.Core.Path.{sym, _∙_}
-use Prim.Native.Nat.{_+_}
 use lib.ListN.{length-drop}
 use native.Mathlib.Omega.{arith}
 use borrow.Author.Needs.{needs}

@@ -1,7 +1,6 @@
 use borrow.Author.Tests.{le-leb, lt-leb}
 use Rattle.boxes.specs.Header.{ending}
 use Rattle.fields.specs.Choice.{pick}
-use native.Mathlib.Omega.{arith}
 use borrow.Author.Needs.{needs}
 use Rattle.boxes.proofs.ends.Statement.{statement}
 use Rattle.boxes.proofs.ends.Tie as tie

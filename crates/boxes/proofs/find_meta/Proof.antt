@@ -1,6 +1,5 @@
 use Rattle.boxes.proofs.WalkLaws.{first-bad, first-short, first-past, first-thin, first-plain, first-branded, first-room}
 use mathlib.Core.Path.{sym, _∙_}
-use native.Mathlib.Omega.{arith}
 use borrow.Author.Needs.{needs}
 use Rattle.boxes.proofs.find_meta.Statement.{statement}
 use Rattle.boxes.proofs.find_meta.Tie as tie

@@ -4,7 +4,7 @@ use Rattle.boxes.specs.Types.{mif1}
 use Rattle.fields.specs.Lists.{member}
 use lib.ListN.{length}
 use mathlib.Core.Path.{_≡_, sym, _∙_, refl}
-use Prim.Native.Nat.{_-_, _*_, _≤_}
+use Prim.Native.Nat.{_-_}
 use native.Mathlib.Omega.{arith}
 use borrow.Author.Needs.{needs}
 use Rattle.boxes.proofs.has_brand.Statement.{statement}

@@ -1,5 +1,4 @@
 use borrow.Author.Tests.{eq-eqb, ne-eqb}
-use native.Mathlib.Omega.{arith}
 use borrow.Author.Needs.{needs}
 use Rattle.boxes.proofs.is_branded.Statement.{statement}
 use Rattle.boxes.proofs.is_branded.Tie as tie

@@ -2,8 +2,6 @@ use Rattle.boxes.specs.Family.{rank, slotOf}
 use Rattle.fields.specs.Choice.{pick}
 use borrow.Author.Tests.{ne-eqb}
 use mathlib.Core.Path.{sym, ap}
-use native.Mathlib.Omega.{arith}
-use borrow.Author.Needs.{needs}
 use Rattle.boxes.proofs.slot_of.Statement.{statement}
 use Rattle.boxes.proofs.slot_of.Tie as tie
 use Rattle.boxes.proofs.slot_of.Reads as reads

@@ -1,6 +1,5 @@
 use Rattle.boxes.proofs.HeaderLaws.{says, says-room, top-short, top-open, top-bad, top-closed}
 use mathlib.Core.Path.{sym, _∙_}
-use Prim.Native.Nat.{_+_}
 use native.Mathlib.Omega.{arith}
 use borrow.Author.Needs.{needs}
 use Rattle.boxes.proofs.top_box_at.Statement.{statement}

@@ -1,7 +1,7 @@
 use Rattle.boxes.proofs.FamilyLaws.{So, begin, at-bad, at-spare, at-end, further, passed, twice, seated}
 use lib.ListN.{length}
 use mathlib.Core.Path.{sym, _∙_}
-use Prim.Native.Nat.{_+_, _-_}
+use Prim.Native.Nat.{_-_}
 use native.Mathlib.Omega.{arith}
 use borrow.Author.Needs.{needs}
 use Rattle.boxes.proofs.walk_children.Statement.{statement}

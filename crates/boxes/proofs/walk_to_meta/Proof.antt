@@ -3,7 +3,7 @@ use Rattle.boxes.specs.Family.{toldMeta}
 use Rattle.boxes.specs.Top.{walk}
 use lib.ListN.{length, drop}
 use mathlib.Core.Path.{_≡_, sym, ap, _∙_, refl}
-use Prim.Native.Nat.{_+_, _-_}
+use Prim.Native.Nat.{_-_}
 use native.Mathlib.Omega.{arith}
 use borrow.Author.Needs.{needs}
 use Rattle.boxes.proofs.walk_to_meta.Statement.{statement}

@@ -1,0 +1,9 @@
+pub mod TurnLaws
+pub mod ClapLaws
+pub mod SceneLaws
+pub mod DecodeLaws
+pub mod CountLaws
+pub mod RecipeLaws
+pub mod DepthLaws
+pub mod SourceLaws
+pub mod PathLaws

@@ -1,0 +1,4 @@
+pub mod RuleLaws
+pub mod DerivationLaws
+pub mod SceneLaws
+pub mod ListedLaws

@@ -1,0 +1,65 @@
+-- What a file that is judged well keeps, rule by rule. Assumes nothing.
+use Prim.Native.Nat.{ℕ, zero, suc, _+_, _<_}
+use native.Mathlib.Nat.{add-zero, zero-add}
+use native.Mathlib.Omega.{arith}
+use mathlib.Core.Path.{_≡_}
+use mathlib.Core.List.{List, [], _∷_}
+use lib.ListN.{length, getD}
+use Rattle.boxes.specs.Answer.{Answer, ok}
+use Rattle.boxes.proofs.AnswerLaws.{then-ok}
+use Rattle.contents.specs.Iinf.{Item}
+use Rattle.contents.specs.File.{File}
+use Rattle.pictures.specs.Scene.{Scene}
+use Rattle.rules.specs.Joined.{noItem, itemAt}
+use Rattle.rules.specs.Derivations.{sceneOf}
+use Rattle.rules.specs.Rules.{inOrder, rule12, rule13-14, rule15-16, rule17, rule18, rule19, rule20, byDepth, judged}
+
+-- inOrder: a rule that refuses nothing holds of each item, with its row
+pub in-order-each : (rule : ℕ → Item → Answer (Unit {0})) (r : ℕ) (items : List Item) → inOrder rule r items ≡ ok tt → (k : ℕ) → k < length items → rule (r + k) (getD items k noItem) ≡ ok tt
+unfolding inOrder
+in-order-each rule r [] e k h = absurd (omega arith)
+in-order-each rule r (i ∷ is) e zero h = rw add-zero (then-ok _ _ tt e .1)
+in-order-each rule r (i ∷ is) e (suc k) h =
+    let z : suc r + k ≡ r + suc k = omega arith in
+    rw z at (in-order-each rule (suc r) is (then-ok (rule r i) _ tt e .2) k (omega arith))
+
+-- byDepth
+pub by-depth-each : (s : Scene) (is : List Item) (n d : ℕ) → byDepth s is n d ≡ ok tt → (k : ℕ) → k < n → inOrder (rule20 s (d + k)) 0 is ≡ ok tt
+unfolding byDepth
+by-depth-each s is zero d e k h = absurd (omega arith)
+by-depth-each s is (suc n) d e zero h = rw add-zero (then-ok _ _ tt e .1)
+by-depth-each s is (suc n) d e (suc k) h =
+    let z : suc d + k ≡ d + suc k = omega arith in
+    rw z at (by-depth-each s is n (suc d) (then-ok (inOrder (rule20 s d) 0 is) _ tt e .2) k (omega arith))
+
+-- judged: each rule refuses no item
+pub record Judged (total : ℕ) (head : List ℕ) (f : File) : Type 0 where
+  pub by-12 : rule12 f ≡ ok tt
+  pub by-13-14 : (i : ℕ) → i < length (f .items) → rule13-14 total head f (itemAt f i) ≡ ok tt
+  pub by-15-16 : (i : ℕ) → i < length (f .items) → rule15-16 f (itemAt f i) ≡ ok tt
+  pub by-17 : (i : ℕ) → i < length (f .items) → rule17 total head f (itemAt f i) ≡ ok tt
+  pub by-18 : (i : ℕ) → i < length (f .items) → rule18 (sceneOf total head f) i (itemAt f i) ≡ ok tt
+  pub by-19 : (i : ℕ) → i < length (f .items) → rule19 (sceneOf total head f) i (itemAt f i) ≡ ok tt
+  pub by-20 : (d : ℕ) → d < 17 → (i : ℕ) → i < length (f .items) → rule20 (sceneOf total head f) d i (itemAt f i) ≡ ok tt
+
+pub judged-each : (total : ℕ) (head : List ℕ) (f : File) → judged total head f ≡ ok tt → Judged total head f
+unfolding judged
+judged-each total head f e =
+    let x20 = then-ok _ _ tt e in
+    let x19 = then-ok _ _ tt (x20 .1) in
+    let x18 = then-ok _ _ tt (x19 .1) in
+    let x17 = then-ok _ _ tt (x18 .1) in
+    let x15 = then-ok _ _ tt (x17 .1) in
+    let x13 = then-ok _ _ tt (x15 .1) in
+    record {
+      by-12 = x13 .1;
+      by-13-14 = each (λ r i. rule13-14 total head f i) (x13 .2);
+      by-15-16 = each (λ r i. rule15-16 f i) (x15 .2);
+      by-17 = each (λ r i. rule17 total head f i) (x17 .2);
+      by-18 = each (rule18 (sceneOf total head f)) (x18 .2);
+      by-19 = each (rule19 (sceneOf total head f)) (x19 .2);
+      by-20 = λ d h. each (rule20 (sceneOf total head f) d) (rw zero-add at (by-depth-each (sceneOf total head f) (f .items) 17 0 (x20 .2) d h));
+    }
+  where
+    each : (rule : ℕ → Item → Answer (Unit {0})) → inOrder rule 0 (f .items) ≡ ok tt → (i : ℕ) → i < length (f .items) → rule i (itemAt f i) ≡ ok tt
+    each rule h i l = rw zero-add at (in-order-each rule 0 (f .items) h i l)
