@@ -1,0 +1,3 @@
+pub mod InputLaws
+pub mod RoundLaws
+pub mod MarkLaws

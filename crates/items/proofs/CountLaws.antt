@@ -1,0 +1,55 @@
+-- The items of an `iinf` by what the code reads of its count. Assumes nothing.
+use Prim.Native.Nat.{ℕ, _+_, _-_, _≤_}
+use native.Mathlib.Omega.{arith}
+use mathlib.Core.Path.{_≡_, refl, sym, ap, _∙_, subst}
+use mathlib.Core.List.{List, []}
+use lib.ListN.{length, drop, length-drop}
+use Rattle.boxes.specs.Answer.{Answer, refuse}
+use Rattle.boxes.specs.Exactly.{exactly}
+use Rattle.boxes.specs.declared.Refusal.{Refusal}
+use Rattle.forms.specs.Form.{got}
+use Rattle.forms.proofs.StepLaws.{lead-reads, reads-got, reads-refused}
+use Rattle.contents.specs.Iinf.{Item, infe-step, iinf-count, items}
+use Rattle.items.specs.declared.CountRead.{CountRead}
+use Rattle.items.specs.declared.CountRead.the-variants as count
+use Rattle.items.specs.declared.ItemsRead.the-variants as read
+use Rattle.items.specs.Told.{toldItems, ItemsLeft, CountIs, Stored}
+use Rattle.items.proofs.FillLaws.{stored-refused}
+
+-- items
+module _ (s : List ℕ) (place base : ℕ) where
+  items-gone : (n p : ℕ) → iinf-count .read place s ≡ refuse n p → items place base s ≡ refuse n p
+  unfolding items
+  items-gone n p e = lead-reads iinf-count place s _ base ∙ reads-refused iinf-count place s _ n p e
+
+  items-from : (n at : ℕ) → at ≤ length s → iinf-count .read place s ≡ got n (drop at s) → items place base s ≡ exactly infe-step place n (base + at) [] (drop at s)
+  unfolding items
+  items-from n at h e =
+      let z : length s - length (drop at s) ≡ at = rw length-drop (omega arith) in
+      lead-reads iinf-count place s _ base
+      ∙ reads-got iinf-count place s _ n (drop at s) e
+      ∙ ap (λ (k : ℕ). exactly infe-step place n (base + k) [] (drop at s)) z
+
+  -- ItemsLeft
+  left-by : (a : Answer (List Item)) (t u : List ℕ) → items place base s ≡ a → Stored a t u → ItemsLeft s place base t u
+  left-by a t u e h = record { kept = h .kept; told = λ pl x is q. h .told pl x is (sym e ∙ q) }
+
+  module _ (y : CountRead) (f : CountIs s place y) where
+    pub items-refused : (r : Refusal) (t : List ℕ) → y ≡ count.Refused r → (read.Refused r ≡ toldItems (items place base s)) × ItemsLeft s place base t t
+    unfolding toldItems
+    items-refused r t e =
+        let q = items-gone (r .number) (r .place) (subst (CountIs s place) e f) in
+        (sym (ap toldItems q), left-by _ t t q (stored-refused _ t t (record { same-length = refl; past = refl }) (r .number) (r .place) refl))
+
+    module _ (n at : ℕ) (e : y ≡ count.Is n at) where
+      counted : CountIs s place (count.Is n at)
+      counted = subst (CountIs s place) e f
+
+      pub count-room : (at ≤ length s) × (n ≤ 256)
+      count-room = let k = counted in (k .1, k .2)
+
+      pub items-counted : items place base s ≡ exactly infe-step place n (base + at) [] (drop at s)
+      items-counted = let k = counted in items-from n at (k .1) (k .0)
+
+      pub left-counted : (t u : List ℕ) → Stored (exactly infe-step place n (base + at) [] (drop at s)) t u → ItemsLeft s place base t u
+      left-counted t u h = left-by _ t u items-counted h

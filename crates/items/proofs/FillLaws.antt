@@ -1,0 +1,135 @@
+-- Filling the rows of a table with the items of an `iinf`: what the loop keeps, and each way out of it. Assumes nothing.
+use Prim.Native.Nat.{ℕ, suc, _+_, _*_, _-_, _≤_, _<_}
+use native.Mathlib.Nat.{eq-or-lt-of-le}
+use native.Mathlib.Numerals.{add-one}
+use native.Mathlib.Omega.{arith}
+use mathlib.Core.Path.{_≡_, refl, sym, ap, _∙_, subst}
+use mathlib.Core.List.{List, [], _∷_, _++_}
+use mathlib.Core.Logic.{⊎-elim}
+use lib.ListN.{length, drop, length-append}
+use Rattle.boxes.specs.Answer.{Answer, ok, refuse}
+use Rattle.boxes.specs.Exactly.{exactly}
+use Rattle.boxes.specs.declared.Refusal.{Refusal}
+use Rattle.boxes.proofs.AnswerLaws.{ok-inj}
+use Rattle.contents.specs.Iinf.{Item, idsOf, infe-step}
+use Rattle.rules.specs.Places.{Places}
+use Rattle.records.specs.Raw.{unread, rawOf}
+use Rattle.records.specs.Rows.{idAt, idsIn}
+use Rattle.records.specs.Stage.{Kept, withItems}
+use Rattle.records.proofs.RawLaws.{raw-item}
+use Rattle.items.specs.declared.Info.{Info}
+use Rattle.items.specs.declared.NextItem.{NextItem}
+use Rattle.items.specs.declared.NextItem.the-variants as next
+use Rattle.items.specs.declared.ItemsRead.{ItemsRead}
+use Rattle.items.specs.declared.ItemsRead.the-variants as read
+use Rattle.items.specs.Told.{toldItems, itemOf, NextIs, rowPut, Stored}
+use Rattle.items.proofs.TableLaws.{put-kept, put-below, put-id, put-ids}
+use Rattle.items.proofs.StepLaws.{exactlyFrom, exactly-end, exactly-left}
+
+-- Stored
+module _ (a : Answer (List Item)) (t u : List ℕ) (k : Kept t u) where
+  pub stored-refused : (n p : ℕ) → a ≡ refuse n p → Stored a t u
+  stored-refused n p e = record { kept = k; told = λ pl x is q r. let z : _≡_ {A = ℕ} 0 1 = cc in absurd (omega arith) }
+
+  pub stored-ok : (is : List Item) → a ≡ ok is → ((pl : Places) (x : List ℕ) → t ≡ rawOf [] pl unread ++ x → u ≡ rawOf [] pl (withItems is) ++ x) → Stored a t u
+  stored-ok is e h =
+      record { kept = k; told = λ pl x js q r. h pl x r ∙ ap (λ (l : List Item). rawOf [] pl (withItems l) ++ x) (ok-inj is js (sym e ∙ q)) }
+
+-- rowPut: the table of the items so far becomes that of one more
+put-raw : (pl : Places) (x : List ℕ) (is : List Item) (i : Item) → length is < 256 → rowPut (rawOf [] pl (withItems is) ++ x) (length is) i ≡ rawOf [] pl (withItems (is ++ (i ∷ []))) ++ x
+unfolding rowPut
+put-raw pl x is i h = sym (raw-item [] pl x (omega arith) (withItems is) i refl refl refl h)
+
+module _ (s : List ℕ) (from n place base : ℕ) (t₀ : List ℕ) where
+  abbrev answer : Answer (List Item)
+  answer = exactly infe-step place n (base + from) [] (drop from s)
+
+  -- what the loop keeps: i items, read from the boxes before `at`, are in the first i rows
+  pub record So (t : List ℕ) (at above i : ℕ) : Type 0 where
+    pub items : List Item
+    pub count : length items ≡ i
+    pub few : i ≤ n
+    pub here : at ≤ length s
+    pub same : answer ≡ exactlyFrom infe-step place base s (n - i) at items
+    pub below : (k : ℕ) → k < i → idAt t k < above
+    pub ids : idsIn t i ≡ idsOf items
+    pub kept : Kept t₀ t
+    pub told : (pl : Places) (x : List ℕ) → t₀ ≡ rawOf [] pl unread ++ x → t ≡ rawOf [] pl (withItems items) ++ x
+
+  pub begin : from ≤ length s → So t₀ from 0 0
+  unfolding idsIn
+  begin h =
+      let e : n ≡ n - 0 = omega arith in
+      record {
+        items = [];
+        count = refl;
+        few = omega arith;
+        here = h;
+        same = ap (λ (k : ℕ). exactlyFrom infe-step place base s k from []) e;
+        below = λ k l. absurd (omega arith);
+        ids = refl;
+        kept = record { same-length = refl; past = refl };
+        told = λ pl x e. e;
+      }
+
+  -- what the code returns for the items, and leaves in the table
+  abbrev pub Tells : ItemsRead → List ℕ → Type 0
+  Tells r t = (r ≡ toldItems answer) × Stored answer t₀ t
+
+  module _ (t : List ℕ) (at above i : ℕ) (so : So t at above i) where
+    tells-refused : (m q : ℕ) → answer ≡ refuse m q → Tells (read.Refused (record { number = m; place = q })) t
+    unfolding toldItems
+    tells-refused m q e = (sym (ap toldItems e), stored-refused answer t₀ t (so .kept) m q e)
+
+    -- after the last box
+    module _ (h : n ≤ i) where
+      last : answer ≡ exactlyFrom infe-step place base s 0 at (so .items)
+      last = let e : n - i ≡ 0 = omega arith in so .same ∙ ap (λ (k : ℕ). exactlyFrom infe-step place base s k at (so .items)) e
+
+      pub left-over : at < length s → Tells (read.Refused (record { number = 8; place = place })) t
+      left-over l = tells-refused 8 place (last ∙ exactly-left infe-step place base s at (so .items) l)
+
+      pub all-read : length s ≤ at → Tells (read.Items n) t
+      unfolding toldItems
+      all-read l =
+          let e : answer ≡ ok (so .items) = last ∙ exactly-end infe-step place base s at (so .items) l in
+          let k : n ≡ length (so .items) = omega (arith, so .count, so .few) in
+          (ap read.Items k ∙ sym (ap toldItems e), stored-ok answer t₀ t (so .kept) (so .items) e (so .told))
+
+    -- at one more box
+    module _ (h : i < n) (limit : n ≤ 256) (room : 11280 ≤ length t₀) (y : NextItem) (f : (before : List Item) → idsIn t i ≡ idsOf before → NextIs s at place base before y) where
+      more : answer ≡ exactlyFrom infe-step place base s (suc (n - (i + 1))) at (so .items)
+      more = let e : n - i ≡ suc (n - (i + 1)) = omega arith in so .same ∙ ap (λ (k : ℕ). exactlyFrom infe-step place base s k at (so .items)) e
+
+      pub gone : (r : Refusal) → y ≡ next.Refused r → Tells (read.Refused r) t
+      gone r e =
+          let g : NextIs s at place base (so .items) (next.Refused r) = subst (NextIs s at place base (so .items)) e (f (so .items) (so .ids)) in
+          tells-refused (r .number) (r .place) (more ∙ g (n - (i + 1)))
+
+      module _ (j : Info) (end : ℕ) (e : y ≡ next.Is j end) where
+        is-next : NextIs s at place base (so .items) (next.Is j end)
+        is-next = subst (NextIs s at place base (so .items)) e (f (so .items) (so .ids))
+
+        pub stored : (u : List ℕ) (up : ℕ) → u ≡ rowPut t i (itemOf j) → above ≤ up → j .id .0 + 1 ≤ up → So u end up (i + 1)
+        stored u up eu a b =
+            let g = is-next in
+            let fits : 16 + 16 * i < length t = omega (arith, so .kept .same-length) in
+            record {
+              items = so .items ++ (itemOf j ∷ []);
+              count = rw length-append (omega (arith, so .count));
+              few = omega arith;
+              here = g .1;
+              same = more ∙ g .2 (n - (i + 1));
+              below = λ k l.
+                  ⊎-elim
+                  (λ q. let z : idAt u k ≡ j .id .0 = ap (λ (v : ℕ). idAt u v) q ∙ ap (λ (v : List ℕ). idAt v i) eu ∙ put-id t i (itemOf j) fits in omega arith)
+                  (λ q. let z : idAt u k ≡ idAt t k = ap (λ (v : List ℕ). idAt v k) eu ∙ put-below t i (itemOf j) k q in omega (arith, so .below k q))
+                  (eq-or-lt-of-le {n = k} {m = i} (omega arith));
+              ids = ap (λ (v : List ℕ). idsIn v (i + 1)) eu ∙ ap (idsIn (rowPut t i (itemOf j))) (add-one i) ∙ put-ids t i (itemOf j) (so .items) fits (so .ids);
+              kept = subst (Kept t₀) (sym eu) (put-kept t i (itemOf j) t₀ (omega arith) (so .kept));
+              told = λ pl x q.
+                  eu
+                  ∙ ap (λ (v : List ℕ). rowPut v i (itemOf j)) (so .told pl x q)
+                  ∙ ap (λ (v : ℕ). rowPut (rawOf [] pl (withItems (so .items)) ++ x) v (itemOf j)) (sym (so .count))
+                  ∙ put-raw pl x (so .items) (itemOf j) (omega (arith, so .count));
+            }

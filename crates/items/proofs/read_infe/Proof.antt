@@ -1,0 +1,50 @@
+-- `items::read_infe` meets its contract. Assumes nothing.
+use mathlib.Core.Path.{refl, sym, ap, _∙_}
+use mathlib.Core.Logic.{inl, inr}
+use borrow.Author.Tests.{eq-eqb, ne-eqb}
+use Rattle.fields.proofs.FieldLaws.{pick-yes, pick-no}
+use Rattle.contents.specs.Full.{between}
+use Rattle.contents.proofs.FullLaws.{full-here, full-gone}
+use Rattle.items.specs.Told.{toldInfe}
+use Rattle.items.proofs.FieldLaws.{infe-gone}
+use borrow.Author.Needs.{needs}
+use Rattle.items.proofs.read_infe.Statement.{statement}
+use Rattle.items.proofs.read_infe.Tie as tie
+
+read-full-requires : tie.Need-read-full-requires
+read-full-requires c κs = search needs
+
+enum-known-h : tie.Need-enum-known-h
+enum-known-h c = search needs
+
+enum-known-h-2 : tie.Need-enum-known-h-2
+enum-known-h-2 c = search needs
+
+read-info-requires : tie.Need-read-info-requires
+read-info-requires c κs = let a = c .before .before .before .before .before .before .before .args in (full-here (between 2 3) (a .place) (a .s .now) _ _ (sym (c .before .before .before .before .read-full .ensures) ∙ c .before .before .h2 .given .1) .room, inl refl, c .before .before .before .before .before .before .before .pre)
+
+returns : tie.Need-returns
+returns c = let a = c .before .before .before .before .before .before .before .before .args in c .read-info .ensures _ (full-here (between 2 3) (a .place) (a .s .now) _ _ (sym (c .before .before .before .before .before .read-full .ensures) ∙ c .before .before .before .h2 .given .1) .read) (pick-yes _ _ (eq-eqb _ _ (c .before .if1 .taken)))
+
+read-info-requires-2 : tie.Need-read-info-requires-2
+read-info-requires-2 c κs = let a = c .before .before .before .before .before .before .before .args in (full-here (between 2 3) (a .place) (a .s .now) _ _ (sym (c .before .before .before .before .read-full .ensures) ∙ c .before .before .h2 .given .1) .room, inr refl, c .before .before .before .before .before .before .before .pre)
+
+returns-2 : tie.Need-returns-2
+unfolding toldInfe
+returns-2 c = let a = c .before .before .before .before .before .before .args in λ before e. sym (ap toldInfe (infe-gone before (a .place) (a .s .now) _ _ (full-gone (between 2 3) (a .place) (a .s .now) _ _ (sym (c .before .before .before .read-full .ensures) ∙ c .before .h .given .1))))
+
+returns-3 : tie.Need-returns-3
+returns-3 c = let a = c .before .before .before .before .before .before .before .before .args in c .read-info2 .ensures _ (full-here (between 2 3) (a .place) (a .s .now) _ _ (sym (c .before .before .before .before .before .read-full .ensures) ∙ c .before .before .before .h2 .given .1) .read) (pick-no _ _ (ne-eqb _ _ (c .before .if1 .left)))
+
+pub read-infe-spec : {M : Type 1} → statement M
+read-infe-spec =
+    tie.close
+    (tie.spec
+    read-full-requires
+    enum-known-h
+    enum-known-h-2
+    read-info-requires
+    returns
+    read-info-requires-2
+    returns-2
+    returns-3)

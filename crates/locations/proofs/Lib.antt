@@ -1,0 +1,5 @@
+pub mod SizeLaws
+pub mod TableLaws
+pub mod EntryLaws
+pub mod PutLaws
+pub mod LoopLaws

@@ -1,0 +1,96 @@
+-- `locations::read_locations` meets its contract. Assumes nothing.
+use mathlib.Core.Path.{sym, ap, _∙_, subst}
+use lib.ListN.{drop}
+use Rattle.contents.specs.Full.{upto}
+use Rattle.contents.proofs.FullLaws.{full-here, full-gone}
+use Rattle.records.specs.Rows.{idsIn}
+use Rattle.locations.specs.Told.{toldLocations}
+use Rattle.locations.specs.Parts.{sizes-form, SizesAre}
+use Rattle.locations.proofs.SizeLaws.{iloc-gone, iloc-sizes-gone, iloc-entries}
+use Rattle.locations.proofs.LoopLaws.{told-same, left-whole, left-gone}
+use native.Mathlib.Omega.{arith}
+use borrow.Author.Needs.{needs}
+use Rattle.locations.proofs.read_locations.Statement.{statement}
+use Rattle.locations.proofs.read_locations.Tie as tie
+
+read-full-requires : tie.Need-read-full-requires
+read-full-requires c κs = search needs
+
+enum-known-h : tie.Need-enum-known-h
+enum-known-h c = search needs
+
+enum-known-h-2 : tie.Need-enum-known-h-2
+enum-known-h-2 c = search needs
+
+read-sizes-requires : tie.Need-read-sizes-requires
+read-sizes-requires c κs =
+    let a = c .before .before .before .before .before .before .args in
+    (full-here (upto 2) (a .place) (a .s .now) _ _ (sym (c .before .before .before .read-full .ensures) ∙ c .before .h2 .given .1)) .room
+
+enum-known-z : tie.Need-enum-known-z
+enum-known-z c = search needs
+
+enum-known-z-2 : tie.Need-enum-known-z-2
+enum-known-z-2 c = search needs
+
+add-put-entries : tie.Need-add-put-entries
+add-put-entries c =
+    let a = c .before .before .before .before .before .before .before .before .before .before .args in
+    let v = c .before .before .before .before .before .h2 .given .0 .0 in
+    let z = subst (SizesAre (sizes-form v .read (a .place) (drop 4 (a .s .now))) (a .s .now)) (c .before .z2 .given .1) (c .before .before .before .read-sizes .ensures) in
+    omega arith
+
+put-entries-requires : tie.Need-put-entries-requires
+put-entries-requires c κs =
+    let a = c .before .before .before .before .before .before .before .before .before .before .before .args in
+    let v = c .before .before .before .before .before .before .h2 .given .0 .0 in
+    let z = subst (SizesAre (sizes-form v .read (a .place) (drop 4 (a .s .now))) (a .s .now)) (c .before .before .z2 .given .1) (c .before .before .before .before .read-sizes .ensures) in
+    (z .room, z .sized, c .before .before .before .before .before .before .before .before .before .before .before .pre .1, c .before .before .before .before .before .before .before .before .before .before .before .pre .0, c .before .before .before .before .before .before .before .before .before .before .before .pre .2)
+
+returns : tie.Need-returns
+unfolding toldLocations
+returns c =
+    let a = c .before .before .before .before .before .before .args in
+    let f = full-gone (upto 2) (a .place) (a .s .now) _ _ (sym (c .before .before .before .read-full .ensures) ∙ c .before .h .given .1) in
+    let e = iloc-gone (idsIn (a .table .now) (a .n)) (a .place) (a .s .now) _ _ f in
+    (sym (ap toldLocations e), left-gone (a .s .now) (a .place) (a .n) (a .idat) (a .table .now) _ _ e)
+
+returns-2 : tie.Need-returns-2
+unfolding toldLocations
+returns-2 c =
+    let a = c .before .before .before .before .before .before .before .before .before .before .args in
+    let f = full-here (upto 2) (a .place) (a .s .now) _ _ (sym (c .before .before .before .before .before .before .before .read-full .ensures) ∙ c .before .before .before .before .before .h2 .given .1) in
+    let v = c .before .before .before .before .before .h2 .given .0 .0 in
+    let z = subst (SizesAre (sizes-form v .read (a .place) (drop 4 (a .s .now))) (a .s .now)) (c .before .z .given .1) (c .before .before .before .read-sizes .ensures) in
+    let e = iloc-sizes-gone (idsIn (a .table .now) (a .n)) (a .place) (a .s .now) _ _ f _ _ z in
+    (sym (ap toldLocations e), left-gone (a .s .now) (a .place) (a .n) (a .idat) (a .table .now) _ _ e)
+
+same-length : tie.Need-same-length
+same-length c = search needs
+
+returns-3 : tie.Need-returns-3
+returns-3 c =
+    let a = c .before .before .before .before .before .before .before .before .before .before .before .before .before .before .args in
+    let f = full-here (upto 2) (a .place) (a .s .now) _ _ (sym (c .before .before .before .before .before .before .before .before .before .before .before .read-full .ensures) ∙ c .before .before .before .before .before .before .before .before .before .h2 .given .1) in
+    let v = c .before .before .before .before .before .before .before .before .before .h2 .given .0 .0 in
+    let z = subst (SizesAre (sizes-form v .read (a .place) (drop 4 (a .s .now))) (a .s .now)) (c .before .before .before .before .before .z2 .given .1) (c .before .before .before .before .before .before .before .read-sizes .ensures) in
+    let p = c .before .before .put-entries in
+    let e = iloc-entries (idsIn (a .table .now) (a .n)) (a .place) (a .s .now) _ _ f _ _ z in
+    (told-same (p .result) _ _ e (p .ensures .0), left-whole _ (a .s .now) (a .place) (a .n) (a .idat) (a .table .now) _ e (p .ensures .1))
+
+pub read-locations-spec : {M : Type 1} → statement M
+read-locations-spec =
+    tie.close
+    (tie.spec
+    read-full-requires
+    enum-known-h
+    enum-known-h-2
+    read-sizes-requires
+    enum-known-z
+    enum-known-z-2
+    add-put-entries
+    put-entries-requires
+    returns
+    returns-2
+    same-length
+    returns-3)

@@ -1,0 +1,8 @@
+pub mod IdLaws
+pub mod KeptLaws
+pub mod TargetLaws
+pub mod ReferenceLaws
+pub mod PutLaws
+pub mod StoredLaws
+pub mod ChildrenLaws
+pub mod IrefLaws

@@ -1,0 +1,170 @@
+-- The targets of a reference, one at a time: what the loop over them uses. Assumes nothing.
+use Prim.Native.Nat.{ℕ, suc, _+_, _-_, _*_, _<_, _≤_}
+use native.Mathlib.Omega.{arith}
+use mathlib.Core.Path.{_≡_, refl, sym, ap, _∙_, subst}
+use mathlib.Core.List.{List, [], _∷_, _++_}
+use mathlib.Core.Bool.{Bool, true, false}
+use lib.ListN.{length, set, drop, length-append}
+use lib.Seq.{sets, length-sets}
+use Rattle.fields.specs.Choice.{pick}
+use Rattle.fields.specs.Field.{beAt}
+use Rattle.fields.specs.Lists.{member}
+use Rattle.boxes.specs.Answer.{Answer, ok, refuse}
+use Rattle.boxes.proofs.AnswerLaws.{ok-inj}
+use Rattle.forms.specs.Form.{many}
+use Rattle.forms.proofs.StepLaws.{reads, over, whole-reads, reads-bind, reads-field, reads-short, reads-yes, reads-no, reads-give, reads-none, reads-more, over-end, over-left}
+use Rattle.contents.specs.Iref.{target-form}
+use Rattle.records.specs.Rows.{idAt, idsIn, FoundIs}
+use Rattle.records.specs.Stage.{Kept}
+use Rattle.records.specs.declared.FoundRow.the-variants.{At, Nothing}
+use Rattle.records.proofs.SetsLaws.{sets-below, sets-append}
+use Rattle.table.specs.declared.ItemRow.{ItemRow}
+use Rattle.references.specs.Steps.{targetsFrom, toldTargets, TargetsLeft}
+use Rattle.references.specs.declared.TargetsPut.{TargetsPut}
+use Rattle.references.specs.declared.TargetsPut.the-variants as targets
+use Rattle.references.proofs.IdLaws.{found-member, found-no-member}
+use Rattle.references.proofs.KeptLaws.{kept-sets}
+
+-- target-form, as one of many
+module _ (ids : List ℕ) (w p : ℕ) (s : List ℕ) where
+  -- m more targets from a place on, behind those of `before`
+  abbrev left : ℕ → ℕ → List ℕ → Answer (List ℕ)
+  left m at before = reads (many (target-form ids w) m before) p (drop at s) (over p)
+
+  module _ (m at : ℕ) (before : List ℕ) where
+    target-short : at ≤ length s → length s < at + w → left (suc m) at before ≡ refuse 8 p
+    unfolding target-form
+    target-short h l = reads-more (target-form ids w) p (drop at s) (over p) m before ∙ rw reads-bind (reads-short p s at w _ h l)
+
+    target-unlisted : at + w ≤ length s → member (beAt s at w) ids ≡ false → left (suc m) at before ≡ refuse 11 p
+    unfolding target-form
+    target-unlisted h e =
+        reads-more (target-form ids w) p (drop at s) (over p) m before
+        ∙ rw reads-bind (reads-field p s at w _ h ∙ rw reads-bind (reads-no p (drop (at + w) s) 11 _ _ e))
+
+    target-listed : at + w ≤ length s → member (beAt s at w) ids ≡ true → left (suc m) at before ≡ left m (at + w) (before ++ (beAt s at w ∷ []))
+    unfolding target-form
+    target-listed h e =
+        reads-more (target-form ids w) p (drop at s) (over p) m before
+        ∙ rw reads-bind (reads-field p s at w _ h ∙ rw reads-bind (reads-yes p (drop (at + w) s) 11 _ _ e ∙ reads-give p (drop (at + w) s) _ _))
+
+  module _ (at : ℕ) (ts : List ℕ) where
+    target-left-over : at < length s → left 0 at ts ≡ refuse 8 p
+    target-left-over h = reads-none (target-form ids w) p (drop at s) (over p) ts ∙ over-left p ts s at h
+
+    target-end : length s ≤ at → left 0 at ts ≡ ok ts
+    target-end h = reads-none (target-form ids w) p (drop at s) (over p) ts ∙ over-end p ts s at h
+
+-- the stores of kept targets
+kept-room : (keep : Bool) (ts : List ℕ) (used k : ℕ) → used ≤ 2048 → (keep ≡ true → used + k ≤ 2048) → length ts ≤ k → 7184 + used + length (pick keep ts []) ≤ 11280
+unfolding pick
+kept-room true ts used k a b h = let e = b refl in omega arith
+kept-room false ts used k a b h = omega arith
+
+kept-none : (keep : Bool) (t : List ℕ) (i : ℕ) → sets t i (pick keep [] []) ≡ t
+unfolding pick
+kept-none true t i = refl
+kept-none false t i = refl
+
+kept-more : (keep : Bool) (t : List ℕ) (i j id : ℕ) (ts : List ℕ) → length ts ≡ j → sets (sets t i (pick keep ts [])) (i + j) (pick keep (id ∷ []) []) ≡ sets t i (pick keep (ts ++ (id ∷ [])) [])
+unfolding pick
+kept-more true t i j id ts e = rw (← e) (sym (sets-append ts (id ∷ []) t i))
+kept-more false t i j id ts e = refl
+
+kept-not : (keep : Bool) (t : List ℕ) (i : ℕ) (ts : List ℕ) → keep ≡ false → sets t i (pick keep ts []) ≡ t
+unfolding pick
+kept-not keep t i ts e = rw e
+
+module _ (s : List ℕ) (from w k p n : ℕ) (keep : Bool) (used : ℕ) (t : List ℕ) where
+  -- what the loop keeps: the targets so far, and that they are stored
+  pub record So (u : List ℕ) (at j : ℕ) : Type 0 where
+    pub ts : List ℕ
+    pub count : length ts ≡ j
+    pub upto : j ≤ k
+    pub here : at ≤ length s
+    pub same : targetsFrom (idsIn t n) w k p s from ≡ left (idsIn t n) w p s (k - j) at ts
+    pub stored : u ≡ sets t (7184 + used) (pick keep ts [])
+
+  pub begin : from ≤ length s → So t from 0
+  begin h =
+      let z : k ≡ k - 0 = omega arith in
+      record { ts = []; count = refl; upto = omega arith; here = h; same = whole-reads (many (target-form (idsIn t n) w) k []) p (drop from s) ∙ ap (λ (m : ℕ). left (idsIn t n) w p s m from []) z; stored = sym (kept-none keep t (7184 + used)) }
+
+  -- what the code returns, u being the table
+  abbrev pub Tells : List ℕ → TargetsPut → Type 0
+  Tells u r = (r ≡ toldTargets (targetsFrom (idsIn t n) w k p s from)) × TargetsLeft (targetsFrom (idsIn t n) w k p s from) k keep used t u
+
+  module _ (few : n ≤ 256) (room : used ≤ 2048) (fits : keep ≡ true → used + k ≤ 2048) (u : List ℕ) (at j : ℕ) (so : So u at j) where
+    pub so-length : length u ≡ length t
+    so-length = ap length (so .stored) ∙ length-sets t (7184 + used) (pick keep (so .ts) [])
+
+    so-kept : Kept t u
+    so-kept = let c = so .count in let m = so .upto in subst (Kept t) (sym (so .stored)) (kept-sets t (7184 + used) (pick keep (so .ts) []) (kept-room keep (so .ts) used k room fits (omega arith)))
+
+    so-ids : (i : ℕ) → i < n → idAt u i ≡ idAt t i
+    so-ids i h = ap (λ (l : List ℕ). idAt l i) (so .stored) ∙ sets-below (pick keep (so .ts) []) t (7184 + used) (16 + 16 * i) (omega arith)
+
+    refuses : (m : ℕ) → left (idsIn t n) w p s (k - j) at (so .ts) ≡ refuse m p → Tells u (targets.Refused (record { number = m; place = p }))
+    unfolding toldTargets
+    refuses m e =
+        let a = so .same ∙ e in (
+          sym (ap toldTargets a),
+          record { kept = so-kept; other = λ q. so .stored ∙ kept-not keep t (7184 + used) (so .ts) q; told = λ ts o. let z : _≡_ {A = ℕ} 0 1 = (let y : refuse m p ≡ ok ts = sym a ∙ o in cc) in absurd (omega arith) },
+        )
+
+    -- one target is still to come
+    module _ (more : j < k) where
+      next : k - j ≡ suc (k - (j + 1))
+      next = omega arith
+
+      pub cut : length s - at < w → Tells u (targets.Refused (record { number = 8; place = p }))
+      cut l = let h = so .here in refuses 8 (rw next (target-short (idsIn t n) w p s (k - (j + 1)) at (so .ts) h (omega arith)))
+
+      module _ (l : w ≤ length s - at) (id : ℕ) (e : id ≡ beAt s at w) where
+        inside : at + w ≤ length s
+        inside = let h = so .here in omega arith
+
+        pub unlisted : FoundIs u n id Nothing → Tells u (targets.Refused (record { number = 11; place = p }))
+        unlisted g = refuses 11 (rw next (target-unlisted (idsIn t n) w p s (k - (j + 1)) at (so .ts) inside (rw (← e) (found-no-member t u n so-ids id g))))
+
+        listed : (row : ItemRow) → FoundIs u n id (At row) → (v : List ℕ) → v ≡ sets u (7184 + used + j) (pick keep (id ∷ []) []) → So v (at + w) (j + 1)
+        listed row g v q =
+            let c = so .count in
+            record {
+              ts = so .ts ++ (id ∷ []);
+              count = rw length-append (omega arith);
+              upto = omega arith;
+              here = inside;
+              same = so .same ∙ rw (next, target-listed (idsIn t n) w p s (k - (j + 1)) at (so .ts) inside (rw (← e) (found-member t u n so-ids id row g)), e);
+              stored = q ∙ ap (λ (l : List ℕ). sets l (7184 + used + j) (pick keep (id ∷ []) [])) (so .stored) ∙ kept-more keep t (7184 + used) j id (so .ts) c;
+            }
+
+        pub listed-kept : (row : ItemRow) → FoundIs u n id (At row) → keep ≡ true → (v : List ℕ) → v ≡ set u (7184 + used + j) id → So v (at + w) (j + 1)
+        unfolding pick
+        listed-kept row g y v q = listed row g v (q ∙ rw y)
+
+        pub listed-passed : (row : ItemRow) → FoundIs u n id (At row) → keep ≡ false → (v : List ℕ) → v ≡ u → So v (at + w) (j + 1)
+        unfolding pick
+        listed-passed row g y v q = listed row g v (q ∙ rw y)
+
+    -- all are read
+    module _ (all : k ≤ j) where
+      none : k - j ≡ 0
+      none = omega arith
+
+      pub left-over : at < length s → Tells u (targets.Refused (record { number = 8; place = p }))
+      left-over h = refuses 8 (rw none (target-left-over (idsIn t n) w p s at (so .ts) h))
+
+      pub done : length s ≤ at → Tells u targets.Done
+      unfolding toldTargets
+      done h =
+          let a : targetsFrom (idsIn t n) w k p s from ≡ ok (so .ts) = so .same ∙ rw none (target-end (idsIn t n) w p s at (so .ts) h) in
+          let c = so .count in
+          let m = so .upto in (
+            sym (ap toldTargets a),
+            record {
+              kept = so-kept;
+              other = λ q. so .stored ∙ kept-not keep t (7184 + used) (so .ts) q;
+              told = λ ts o. let y : so .ts ≡ ts = ok-inj _ _ (sym a ∙ o) in (let z = ap length y in omega arith, so .stored ∙ rw y);
+            },
+          )

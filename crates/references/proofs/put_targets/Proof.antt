@@ -1,0 +1,121 @@
+use Prim.Native.Nat.{_-_}
+use mathlib.Core.Path.{subst}
+use mathlib.Core.Logic.{⊎-elim}
+use Rattle.records.specs.Rows.{FoundIs}
+use Rattle.records.specs.declared.FoundRow.the-variants.{At}
+use Rattle.references.proofs.TargetLaws.{So, begin, so-length, cut, unlisted, listed-kept, listed-passed, left-over, done}
+use native.Mathlib.Omega.{arith}
+use borrow.Author.Needs.{needs}
+use Rattle.references.proofs.put_targets.Statement.{statement}
+use Rattle.references.proofs.put_targets.Tie as tie
+use Rattle.references.proofs.put_targets.Reads as reads
+use Rattle.references.proofs.put_targets.Lts as lts
+use Rattle.fields.proofs.be_id.Reads as be-id-reads
+use Rattle.records.proofs.row_of.Reads as row-of-reads
+
+abbrev Inv-loop : tie.InvT-loop
+Inv-loop s from w k place table₀ n keep used at₀ hope₀ j₀ table at hope j = So s from w k place n keep used table₀ table at j
+
+abbrev μ-loop : tie.MeasureT-loop
+μ-loop s from w k place table₀ n keep used at₀ hope₀ j₀ table at hope j = k - j
+
+loop-holds : tie.Need-loop-holds Inv-loop μ-loop
+loop-holds c = begin _ _ _ _ _ _ _ _ _ (c .before .before .pre .2)
+
+sub-if1 : tie.Need-sub-if1 Inv-loop μ-loop
+sub-if1 c = omega (arith, c .before .loop .inv .here)
+
+same-length : tie.Need-same-length Inv-loop μ-loop
+same-length c = so-length _ _ _ _ _ _ _ _ _ (c .before .before .before .before .before .pre .1) (c .before .before .before .before .before .pre .4) (c .before .before .before .before .before .pre .5) _ _ _ (c .before .before .loop .inv)
+
+returns : tie.Need-returns Inv-loop μ-loop
+returns c = cut _ _ _ _ _ _ _ _ _ (c .before .before .before .before .before .pre .1) (c .before .before .before .before .before .pre .4) (c .before .before .before .before .before .pre .5) _ _ _ (c .before .before .loop .inv) (c .before .loop-test .taken) (c .if1 .taken)
+
+be-id-requires : tie.Need-be-id-requires Inv-loop μ-loop
+be-id-requires c κs = (omega (arith, c .before .before .loop .inv .here), c .before .before .before .before .before .pre .3)
+
+row-of-requires : tie.Need-row-of-requires Inv-loop μ-loop
+row-of-requires c κs = (c .before .before .before .before .before .before .before .pre .1, omega (arith, so-length _ _ _ _ _ _ _ _ _ (c .before .before .before .before .before .before .before .pre .1) (c .before .before .before .before .before .before .before .pre .4) (c .before .before .before .before .before .before .before .pre .5) _ _ _ (c .before .before .before .before .loop .inv), c .before .before .before .before .before .before .before .pre .0))
+
+enum-told : tie.Need-enum-told Inv-loop μ-loop
+enum-told c = search needs
+
+same-length-2 : tie.Need-same-length-2 Inv-loop μ-loop
+same-length-2 c = so-length _ _ _ _ _ _ _ _ _ (c .before .before .before .before .before .before .before .before .before .before .pre .1) (c .before .before .before .before .before .before .before .before .before .before .pre .4) (c .before .before .before .before .before .before .before .before .before .before .pre .5) _ _ _ (c .before .before .before .before .before .before .before .loop .inv)
+
+returns-2 : tie.Need-returns-2 Inv-loop μ-loop
+returns-2 c = unlisted _ _ _ _ _ _ _ _ _ (c .before .before .before .before .before .before .before .before .before .before .pre .1) (c .before .before .before .before .before .before .before .before .before .before .pre .4) (c .before .before .before .before .before .before .before .before .before .before .pre .5) _ _ _ (c .before .before .before .before .before .before .before .loop .inv) (c .before .before .before .before .before .before .loop-test .taken) (c .before .before .before .before .before .if1 .left) _ (c .before .before .before .before .be-id .ensures) (subst (FoundIs _ _ _) (c .enum-told .given .1) (c .before .before .row-of .ensures))
+
+enum-known-f : tie.Need-enum-known-f Inv-loop μ-loop
+enum-known-f c = search needs
+
+add-table : tie.Need-add-table Inv-loop μ-loop
+add-table c = omega (arith, c .before .before .before .before .before .before .before .before .before .before .before .before .pre .4)
+
+add-table-2 : tie.Need-add-table-2 Inv-loop μ-loop
+add-table-2 c = omega (arith, c .before .before .before .before .before .before .before .before .before .before .before .before .pre .5 (c .if2 .taken), c .before .before .before .before .before .before .before .before .loop-test .taken)
+
+mul-table : tie.Need-mul-table Inv-loop μ-loop
+mul-table c = omega (arith, c .before .before .before .before .before .before .before .before .before .before .before .before .pre .5 (c .if2 .taken), c .before .before .before .before .before .before .before .before .loop-test .taken)
+
+slice-write-table : tie.Need-slice-write-table Inv-loop μ-loop
+slice-write-table c = omega (arith, c .before .before .before .before .before .before .before .before .before .before .before .before .pre .5 (c .if2 .taken), c .before .before .before .before .before .before .before .before .loop-test .taken, c .before .before .before .before .before .before .before .before .before .before .before .before .pre .0, so-length _ _ _ _ _ _ _ _ _ (c .before .before .before .before .before .before .before .before .before .before .before .before .pre .1) (c .before .before .before .before .before .before .before .before .before .before .before .before .pre .4) (c .before .before .before .before .before .before .before .before .before .before .before .before .pre .5) _ _ _ (c .before .before .before .before .before .before .before .before .before .loop .inv))
+
+add-hope : tie.Need-add-hope Inv-loop μ-loop
+add-hope c = let g : FoundIs (c .before .before .before .before .before .before .before .before .before .loop .table) (c .before .before .before .before .before .before .before .before .before .before .before .before .args .n) (c .before .before .before .before .before .before .be-id .result) (At (c .before .before .f .given .0 .0)) = (subst (FoundIs _ _ _) (c .before .before .f .given .1) (c .before .before .before .before .row-of .ensures)) in omega (arith, g .0, c .before .before .before .before .before .before .before .before .before .before .before .before .pre .1)
+
+add-at : tie.Need-add-at Inv-loop μ-loop
+add-at c = omega (arith, c .before .before .before .before .before .before .before .before .before .loop .inv .here)
+
+add-j : tie.Need-add-j Inv-loop μ-loop
+add-j c = omega arith
+
+loop-less : tie.Need-loop-less Inv-loop μ-loop
+loop-less c = omega arith
+
+loop-again : tie.Need-loop-again Inv-loop μ-loop
+loop-again c =
+    ⊎-elim (λ y. listed-kept _ _ _ _ _ _ _ _ _ (c .before .before .before .before .before .before .before .before .before .before .before .before .pre .1) (c .before .before .before .before .before .before .before .before .before .before .before .before .pre .4) (c .before .before .before .before .before .before .before .before .before .before .before .before .pre .5) _ _ _ (c .before .before .before .before .before .before .before .before .before .loop .inv) (c .before .before .before .before .before .before .before .before .loop-test .taken) (c .before .before .before .before .before .before .before .if1 .left) _ (c .before .before .before .before .before .before .be-id .ensures) _ (subst (FoundIs _ _ _) (c .before .before .f .given .1) (c .before .before .before .before .row-of .ensures)) (y .0 .taken) _ (y .1))
+    (λ y. listed-passed _ _ _ _ _ _ _ _ _ (c .before .before .before .before .before .before .before .before .before .before .before .before .pre .1) (c .before .before .before .before .before .before .before .before .before .before .before .before .pre .4) (c .before .before .before .before .before .before .before .before .before .before .before .before .pre .5) _ _ _ (c .before .before .before .before .before .before .before .before .before .loop .inv) (c .before .before .before .before .before .before .before .before .loop-test .taken) (c .before .before .before .before .before .before .before .if1 .left) _ (c .before .before .before .before .before .before .be-id .ensures) _ (subst (FoundIs _ _ _) (c .before .before .f .given .1) (c .before .before .before .before .row-of .ensures)) (y .0 .left) _ (y .1)) (c .if2 .came)
+
+same-length-3 : tie.Need-same-length-3 Inv-loop μ-loop
+same-length-3 c = so-length _ _ _ _ _ _ _ _ _ (c .before .before .before .before .before .pre .1) (c .before .before .before .before .before .pre .4) (c .before .before .before .before .before .pre .5) _ _ _ (c .before .before .loop .inv)
+
+returns-3 : tie.Need-returns-3 Inv-loop μ-loop
+returns-3 c = left-over _ _ _ _ _ _ _ _ _ (c .before .before .before .before .before .pre .1) (c .before .before .before .before .before .pre .4) (c .before .before .before .before .before .pre .5) _ _ _ (c .before .before .loop .inv) (c .before .loop-test .left) (c .if3 .taken)
+
+same-length-4 : tie.Need-same-length-4 Inv-loop μ-loop
+same-length-4 c = so-length _ _ _ _ _ _ _ _ _ (c .before .before .before .before .before .pre .1) (c .before .before .before .before .before .pre .4) (c .before .before .before .before .before .pre .5) _ _ _ (c .before .before .loop .inv)
+
+returns-4 : tie.Need-returns-4 Inv-loop μ-loop
+returns-4 c = done _ _ _ _ _ _ _ _ _ (c .before .before .before .before .before .pre .1) (c .before .before .before .before .before .pre .4) (c .before .before .before .before .before .pre .5) _ _ _ (c .before .before .loop .inv) (c .before .loop-test .left) (c .if3 .left)
+
+pub put-targets-spec : {M : Type 1} → statement M
+put-targets-spec =
+    tie.close
+    (tie.spec
+    Inv-loop
+    μ-loop
+    loop-holds
+    sub-if1
+    same-length
+    returns
+    be-id-requires
+    row-of-requires
+    enum-told
+    same-length-2
+    returns-2
+    enum-known-f
+    add-table
+    add-table-2
+    mul-table
+    slice-write-table
+    add-hope
+    add-at
+    add-j
+    loop-less
+    loop-again
+    same-length-3
+    returns-3
+    same-length-4
+    returns-4)
