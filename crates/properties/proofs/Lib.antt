@@ -1,0 +1,10 @@
+pub mod CheckLaws
+pub mod KeepLaws
+pub mod RowLaws
+pub mod AssociationLaws
+pub mod EntryLaws
+pub mod NameLaws
+pub mod LevelLaws
+pub mod PropertyLaws
+pub mod PairLaws
+pub mod ShownLaws

@@ -1,0 +1,52 @@
+use Rattle.properties.proofs.CheckLaws.{held-ispe, held-clap, held-irot, held-imir, held-other}
+use Rattle.properties.specs.Steps.{toldChecked}
+use mathlib.Core.Path.{sym, ap, _∙_}
+use borrow.Author.Needs.{needs}
+use Rattle.properties.proofs.check_property.Statement.{statement}
+use Rattle.properties.proofs.check_property.Tie as tie
+use Rattle.properties.proofs.check_property.Reads as reads
+use Rattle.properties.proofs.check_property.Lts as lts
+use Rattle.properties.proofs.check_ispe.Reads as check-ispe-reads
+use Rattle.properties.proofs.has_length.Reads as has-length-reads
+
+check-ispe-requires : tie.Need-check-ispe-requires
+check-ispe-requires c κs = search needs
+
+has-length-requires : tie.Need-has-length-requires
+has-length-requires c κs = search needs
+
+has-length-requires-2 : tie.Need-has-length-requires-2
+has-length-requires-2 c κs = search needs
+
+has-length-requires-3 : tie.Need-has-length-requires-3
+has-length-requires-3 c κs = search needs
+
+returns : tie.Need-returns
+returns c = c .check-ispe .ensures ∙ sym (ap toldChecked (held-ispe (c .before .before .before .args .kind) (c .before .before .before .args .place) (c .before .before .before .args .s .now) (c .before .match .keys1)))
+
+returns-2 : tie.Need-returns-2
+returns-2 c = c .has-length .ensures ∙ sym (ap toldChecked (held-clap (c .before .before .before .args .kind) (c .before .before .before .args .place) (c .before .before .before .args .s .now) (c .before .match .keys2)))
+
+returns-3 : tie.Need-returns-3
+returns-3 c = c .has-length2 .ensures ∙ sym (ap toldChecked (held-irot (c .before .before .before .args .kind) (c .before .before .before .args .place) (c .before .before .before .args .s .now) (c .before .match .keys3)))
+
+returns-4 : tie.Need-returns-4
+returns-4 c = c .has-length3 .ensures ∙ sym (ap toldChecked (held-imir (c .before .before .before .args .kind) (c .before .before .before .args .place) (c .before .before .before .args .s .now) (c .before .match .keys4)))
+
+returns-5 : tie.Need-returns-5
+unfolding toldChecked
+returns-5 c = sym (ap toldChecked (held-other (c .before .before .args .kind) (c .before .before .args .place) (c .before .before .args .s .now) (c .match .rest .0 .0 .0 .1) (c .match .rest .0 .0 .1) (c .match .rest .0 .1) (c .match .rest .1)))
+
+pub check-property-spec : {M : Type 1} → statement M
+check-property-spec =
+    tie.close
+    (tie.spec
+    check-ispe-requires
+    has-length-requires
+    has-length-requires-2
+    has-length-requires-3
+    returns
+    returns-2
+    returns-3
+    returns-4
+    returns-5)

@@ -1,0 +1,18 @@
+use Rattle.properties.proofs.CheckLaws.{bytes-whole, bytes-other}
+use Rattle.properties.specs.Steps.{toldChecked}
+use mathlib.Core.Path.{sym, ap}
+use Rattle.properties.proofs.has_length.Statement.{statement}
+use Rattle.properties.proofs.has_length.Tie as tie
+use Rattle.properties.proofs.has_length.Reads as reads
+use Rattle.properties.proofs.has_length.Lts as lts
+
+returns : tie.Need-returns
+unfolding toldChecked
+returns c = sym (ap toldChecked (bytes-whole (c .before .args .n) (c .before .args .place) (c .before .args .s .now) (c .if1 .taken)))
+
+returns-2 : tie.Need-returns-2
+unfolding toldChecked
+returns-2 c = sym (ap toldChecked (bytes-other (c .before .args .n) (c .before .args .place) (c .before .args .s .now) (c .if1 .left)))
+
+pub has-length-spec : {M : Type 1} → statement M
+has-length-spec = tie.close (tie.spec returns returns-2)

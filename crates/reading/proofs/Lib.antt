@@ -1,0 +1,11 @@
+pub mod SpotLaws
+pub mod PartLaws
+pub mod BoundLaws
+pub mod TableLaws
+pub mod ToldLaws
+pub mod StageLaws
+pub mod ChainLaws
+pub mod MetaLaws
+pub mod LastLaws
+pub mod NextLaws
+pub mod TopStage

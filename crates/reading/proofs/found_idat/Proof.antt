@@ -1,0 +1,29 @@
+use mathlib.Core.Path.{sym, ap, _∙_}
+use mathlib.Core.List.{List}
+use lib.ListN.{getD}
+use Rattle.boxes.specs.declared.Spot.{Spot}
+use Rattle.reading.proofs.SpotLaws.{no-idat, idat-is, idat-within}
+use native.Mathlib.Omega.{arith}
+use borrow.Author.Needs.{needs}
+use Rattle.reading.proofs.found_idat.Statement.{statement}
+use Rattle.reading.proofs.found_idat.Tie as tie
+use Rattle.reading.proofs.found_idat.Reads as reads
+use Rattle.reading.proofs.found_idat.Lts as lts
+
+array-copy-out-d : tie.Need-array-copy-out-d
+array-copy-out-d c = search needs
+
+returns : tie.Need-returns
+returns c = λ s st. no-idat s (c .before .before .args .at) _ st (ap (λ (l : List Spot). getD l 6 (record { start = 0; body = 0; end = 0 }) .end) (sym (st .spots-are)) ∙ c .if1 .taken)
+
+add-t11 : tie.Need-add-t11
+add-t11 c = let h = idat-within (c .before .before .pre .0) (c .before .before .args .at) _ (c .before .before .pre .1) (c .before .before .pre .2) in omega arith
+
+add-t12 : tie.Need-add-t12
+add-t12 c = let h = idat-within (c .before .before .pre .0) (c .before .before .args .at) _ (c .before .before .pre .1) (c .before .before .pre .2) in omega arith
+
+returns-2 : tie.Need-returns-2
+returns-2 c = λ s st. idat-is s (c .before .before .args .at) _ st (c .if1 .left)
+
+pub found-idat-spec : {M : Type 1} → statement M
+found-idat-spec = tie.close (tie.spec array-copy-out-d returns add-t11 add-t12 returns-2)
