@@ -37,7 +37,7 @@ pub shaped-drawn : (r : Recipe) (is : List ℕ) → Shaped r is → r ≡ Opaque
 shaped-drawn r is h e = rw e at h
 
 -- nothingIn
-nothing-in : (l : List ℕ) → nothingIn l ≡ true → l ≡ []
+pub nothing-in : (l : List ℕ) → nothingIn l ≡ true → l ≡ []
 nothing-in [] e = refl
 nothing-in (x ∷ xs) e = untrue e
 
@@ -102,7 +102,7 @@ module _ (total : ℕ) (head : List ℕ) (f : File) (item : Item) where
       is-coded d = ⊎-elim (λ h. h) (λ h. untrue (sym d ∙ h)) (or-either (coded (item .type)) (derived (item .type)) i)
 
 -- recipeOf
-rule-17-ok : (id : ℕ) (m : Answer Recipe) (r : Recipe) → asRule17 id m ≡ ok r → m ≡ ok r
+pub rule-17-ok : (id : ℕ) (m : Answer Recipe) (r : Recipe) → asRule17 id m ≡ ok r → m ≡ ok r
 unfolding asRule17
 rule-17-ok id (ok x) r e = e
 rule-17-ok id (refuse n p) r e = let z : _≡_ {A = ℕ} 0 1 = cc in absurd (omega arith)

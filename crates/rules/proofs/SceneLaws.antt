@@ -42,7 +42,7 @@ module _ (total : ℕ) (head : List ℕ) (f : File) where
   s = sceneOf total head f
 
   -- pictureOf
-  picture-at : (i : ℕ) → pictureAt s i ≡ pictureOf total head f (itemAt f i)
+  pub picture-at : (i : ℕ) → pictureAt s i ≡ pictureOf total head f (itemAt f i)
   unfolding pictureOf pick
   picture-at i = List·getD-map (λ (i : Item). pictureOf total head f i) (f .items) i noItem
 
@@ -54,19 +54,19 @@ module _ (total : ℕ) (head : List ℕ) (f : File) where
     abbrev id : ℕ
     id = itemAt f i .id
 
-    recipe-at : pictureAt s i .recipe ≡ recipeOr (recipeOf total head f (itemAt f i))
+    pub recipe-at : pictureAt s i .recipe ≡ recipeOr (recipeOf total head f (itemAt f i))
     unfolding pictureOf
     recipe-at = ap (λ (p : Picture). p .recipe) (picture-at i ∙ pick-yes _ _ e)
 
-    inputs-at : pictureAt s i .inputs ≡ map (λ t. rowOf t (f .items)) (targetsOf f id)
+    pub inputs-at : pictureAt s i .inputs ≡ map (λ t. rowOf t (f .items)) (targetsOf f id)
     unfolding pictureOf
     inputs-at = ap (λ (p : Picture). p .inputs) (picture-at i ∙ pick-yes _ _ e)
 
-    declared-at : pictureAt s i .declared ≡ declaredIn (boxesOf f id)
+    pub declared-at : pictureAt s i .declared ≡ declaredIn (boxesOf f id)
     unfolding pictureOf
     declared-at = ap (λ (p : Picture). p .declared) (picture-at i ∙ pick-yes _ _ e)
 
-    turns-at : pictureAt s i .turns ≡ turnsOf (pictureAt s i .declared) (boxesOf f id)
+    pub turns-at : pictureAt s i .turns ≡ turnsOf (pictureAt s i .declared) (boxesOf f id)
     unfolding pictureOf
     turns-at = ap (λ (p : Picture). p .turns) (picture-at i ∙ pick-yes _ _ e) ∙ rw declared-at
 
@@ -74,18 +74,22 @@ module _ (total : ℕ) (head : List ℕ) (f : File) where
     unfolding outputOf
     fit-at g = rw turns-at (turns-fit (boxesOf f id) (pictureAt s i .declared) (rw turns-at at (good-output s (pictureAt s i) g)))
 
-  module _ (j : Judged total head f) where
-    recipe-ok : (i : ℕ) → i < length (f .items) → (r : Recipe) × (recipeOf total head f (itemAt f i) ≡ ok r)
-    unfolding rule17
-    recipe-ok i l = let x = bind-ok _ _ tt (j .by-17 i l) in (x .0, x .1)
+    -- an item that keeps 17 has a recipe, and the inputs that it asks for
+    module _ (k : rule17 total head f (itemAt f i) ≡ ok tt) where
+      pub recipe-ok : (r : Recipe) × (recipeOf total head f (itemAt f i) ≡ ok r) × (pictureAt s i .recipe ≡ r)
+      unfolding rule17 recipeOr
+      recipe-ok = let x = bind-ok _ _ tt k in (x .0, x .1, recipe-at ∙ ap recipeOr (x .1))
 
+      pub inputs-fed : Shaped (pictureAt s i .recipe) (targetsOf f id) × Images f (targetsOf f id)
+      inputs-fed = let x = recipe-ok in rw (x .2) (recipe-fed total head f (itemAt f i) e (x .0) (x .1))
+
+  module _ (j : Judged total head f) where
     -- an image item is in its row
     image-listed : (i : ℕ) → image (itemAt f i .type) ≡ true → i < length (f .items)
     image-listed i e = elim (decLt i (length (f .items))) [ yes l ↦ l | no n ↦ untrue (rw (List·getD-eq-default (f .items) noItem {n = i} (omega (arith, n))) at e) ]
 
     image-fed : (i : ℕ) → image (itemAt f i .type) ≡ true → Shaped (pictureAt s i .recipe) (targetsOf f (itemAt f i .id)) × Images f (targetsOf f (itemAt f i .id))
-    unfolding recipeOr
-    image-fed i e = let x = recipe-ok i (image-listed i e) in rw (recipe-at i e, x .1) (recipe-fed total head f (itemAt f i) e (x .0) (x .1))
+    image-fed i e = inputs-fed i e (j .by-17 i (image-listed i e))
 
     image-drawn : (i : ℕ) → image (itemAt f i .type) ≡ true → (i < length s) × (pictureAt s i .recipe ≡ Opaque → ⊥)
     image-drawn i e = (rw length-map (image-listed i e), shaped-drawn _ _ (image-fed i e .0))

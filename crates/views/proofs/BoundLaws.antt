@@ -27,7 +27,7 @@ use Rattle.records.specs.Rows.{Distinct}
 use Rattle.records.proofs.MemberLaws.{distinct-more}
 
 -- what each step keeps holds in the end
-many-keeps : {X : Type 0} (P : List X → Type 0) (f : List X → Form X) → ((before : List X) (u : List ℕ) (x : X) → P before → f before .Spells u x → P (before ++ (x ∷ [])))
+pub many-keeps : {X : Type 0} (P : List X → Type 0) (f : List X → Form X) → ((before : List X) (u : List ℕ) (x : X) → P before → f before .Spells u x → P (before ++ (x ∷ [])))
     → (n : ℕ) (before : List X) (u : List ℕ) (l : List X) → P before → many f n before .Spells u l → P l
 unfolding many _>>=_ give
 many-keeps P f step zero before u l p s = subst P (sym (s .1)) p

@@ -3,6 +3,10 @@ pub mod LieLaws
 pub mod RegionLaws
 pub mod SpanLaws
 pub mod TableLaws
+pub mod LookupLaws
 pub mod WordLaws
 pub mod PartLaws
+pub mod SoundLaws
+pub mod LocatedLaws
 pub mod ViewLaws
+pub mod FillLaws

@@ -5,8 +5,9 @@ use native.Mathlib.Omega.{arith}
 use mathlib.Core.Path.{_≡_, refl, ap, _∙_}
 use mathlib.Core.List.{List, _++_, append-assoc}
 use lib.ListN.{length, getD, length-append}
+use lib.Seq.{sets}
 use Rattle.rules.specs.Words.{region}
-use Rattle.records.proofs.SetsLaws.{getD-from, region-length, region-front}
+use Rattle.records.proofs.SetsLaws.{sets-first, sets-from, getD-from, region-length, region-sets, region-front}
 
 unfoldable pub tableBy : List ℕ → List ℕ → List ℕ → List ℕ → List ℕ → List ℕ → List ℕ
 tableBy h r p a t e = region 16 h ++ (region 4096 r ++ (region 1024 p ++ (region 2048 a ++ (region 2048 t ++ region 2048 e))))
@@ -71,3 +72,14 @@ module _ (h r p a t e x : List ℕ) (l : Fill h r p a t e) where
 
   pub extent-word : (i k : ℕ) → k ≡ 9232 + i → i < length e → getD whole k 0 ≡ getD e i 0
   extent-word i k q m = from-extents i k q ∙ region-front 2048 e _ i m
+
+  -- a run of stores into the records
+  pub record-sets : (vs : List ℕ) (i k : ℕ) → k ≡ 16 + i → i + length vs ≤ length r → sets whole k vs ≡ tableBy h (sets r i vs) p a t e ++ x
+  unfolding tableBy
+  record-sets vs i k q m =
+      let n = l .in-records in
+      ap (λ (s : List ℕ). sets s k vs) regions
+      ∙ sets-from vs (region 16 h) _ 16 i k (region-length 16 h (l .in-head)) q
+      ∙ ap (λ (s : List ℕ). region 16 h ++ s) (sets-first vs (region 4096 r) _ i (rw (region-length 4096 r n) (omega arith)))
+      ∙ ap (λ (s : List ℕ). region 16 h ++ (s ++ (region 1024 p ++ (region 2048 a ++ (region 2048 t ++ (region 2048 e ++ x)))))) (region-sets 4096 r vs i m)
+      ∙ simp append-assoc

@@ -47,7 +47,7 @@ module _ {t head : List ℕ} {pl : Places} {f : File} (v : TableOf t head pl f) 
 
     module _ (j first : ℕ) (l : j < length (targetsOf f (idOf f r))) (e : r < 256 → first ≡ recordWord t r 5) where
       pub target-inside : (first < 2048) × (j < 2048)
-      target-inside = let q = e row-small in let k = v .target-room r h in (omega arith, omega arith)
+      target-inside = let q = e row-small in let k = v .target-room r h in let m = v .bounded .few-targets in (omega arith, omega arith)
 
       pub target-read : (w : ℕ) → w ≡ getD t (7184 + (first + j)) 0 → w ≡ getD (targetsOf f (idOf f r)) j 0
       target-read w q = q ∙ ap (λ (a : ℕ). getD t (7184 + (a + j)) 0) (e row-small) ∙ v .target r j h l

@@ -33,15 +33,16 @@ use Rattle.records.specs.Rows.{Distinct}
 use Rattle.records.proofs.JoinLaws.{join-getD}
 use Rattle.records.proofs.RawLaws.{rowWords, row-length, recordsIn, records-joined, records-length, raw-record}
 use Rattle.records.proofs.SetsLaws.{getD-from}
-use Rattle.views.specs.View.{TableOf, Judging, recordWord, idOf, noExtent}
+use Rattle.views.specs.View.{TableOf, Judging, SizesAre, AllPlaced, recordWord, idOf, noExtent}
 use Rattle.views.proofs.BoundLaws.{read-bounds}
 use Rattle.views.proofs.LieLaws.{PartIn}
 use Rattle.views.proofs.RegionLaws.{tableBy, record-word}
 use Rattle.views.proofs.WordLaws.{Rows, Spells, tableWith, fill, place-at, view}
 use Rattle.views.proofs.PartLaws.{property-parts, idat-part}
+use Rattle.views.proofs.SoundLaws.{read-makes-sure}
 
 -- rawOf
-raw-table : (total : ℕ) (pl : Places) (f : File) → rawOf (headWords total f) pl f ≡ tableWith total pl f (recordsIn f) (extentRow pl)
+pub raw-table : (total : ℕ) (pl : Places) (f : File) → rawOf (headWords total f) pl f ≡ tableWith total pl f (recordsIn f) (extentRow pl)
 unfolding rawOf extentRows tableBy
 raw-table total pl f = refl
 
@@ -52,7 +53,7 @@ raw-rows f =
       word = λ r k h l. ap (λ (w : List ℕ). getD w (16 * r + k) 0) (records-joined f) ∙ join-getD (rowWords f) 16 (row-length f) noItem (f .items) r k h (omega arith);
     }
 
-row-four : (pl : Places) (l : Location) (e : Extent) → length (extentRow pl l e) ≡ 4
+pub row-four : (pl : Places) (l : Location) (e : Extent) → length (extentRow pl l e) ≡ 4
 unfolding extentRow
 row-four pl l e = refl
 
@@ -62,7 +63,7 @@ pub raw-view : (total : ℕ) (head : List ℕ) (f : File) (x : List ℕ) → rea
 raw-view total head f x e b d =
     let pl = placesIn total head in
     subst (λ (w : List ℕ). TableOf (w ++ x) head pl f) (sym (raw-table total pl f))
-    (view total head pl f (extentRow pl) (recordsIn f) x (row-four pl) b (raw-rows f) d (λ r j h l. refl) (property-parts total head f e))
+    (view total head pl f (extentRow pl) (recordsIn f) x (row-four pl) b (raw-rows f) d (read-makes-sure total head f e) (λ r j h l. refl) (property-parts total head f e))
 
 -- the same of any file that is read: it keeps the limits
 pub read-view : (total : ℕ) (head : List ℕ) (f : File) (x : List ℕ) → readFile total head ≡ ok f
@@ -78,16 +79,16 @@ raw-judging total pl f x =
     }
 
 -- sizeWords, itemWords
-sizes-length : (s : Scene) (r : ℕ) (i : Item) → length (sizeWords s r i) ≡ 5
+pub sizes-length : (s : Scene) (r : ℕ) (i : Item) → length (sizeWords s r i) ≡ 5
 unfolding sizeWords
 sizes-length s r i = both (λ (l : List ℕ). length l ≡ 5) (image (i .type)) _ _ (λ e. refl) (λ e. refl)
 
 module _ (f : File) (s : Scene) where
-  item-length : (r : ℕ) (i : Item) → length (itemWords f s r i) ≡ 16
+  pub item-length : (r : ℕ) (i : Item) → length (itemWords f s r i) ≡ 16
   unfolding itemWords
   item-length r i = omega (arith, length-append (sizeWords s r i) (0 ∷ []), sizes-length s r i)
 
-  item-front : (r : ℕ) (i : Item) (k : ℕ) → k < 10 → getD (itemWords f s r i) k 0 ≡ getD (rowWords f i) k 0
+  pub item-front : (r : ℕ) (i : Item) (k : ℕ) → k < 10 → getD (itemWords f s r i) k 0 ≡ getD (rowWords f i) k 0
   unfolding itemWords recordOf namedWords derivedWords placeWords
   item-front r i k h = sym (getD-take 10 (itemWords f s r i) k 0 h) ∙ getD-take 10 (rowWords f i) k 0 h
 
@@ -122,7 +123,7 @@ module _ (f : File) (s : Scene) where
       }
 
 -- wordsOf
-words-table : (total : ℕ) (head : List ℕ) (f : File)
+pub words-table : (total : ℕ) (head : List ℕ) (f : File)
     → wordsOf total head f ≡ tableWith total (placesIn total head) f (recordsFrom f (sceneOf total head f) 0 (f .items)) (λ l e. extentWords (placesIn total head) l e)
 unfolding wordsOf tableBy associationRows targetRows
 words-table total head f = refl
@@ -136,7 +137,7 @@ accepted-both total head f e =
     subst (λ (g : File). (readFile total head ≡ ok g) × (judged total head g ≡ ok tt)) (ok-inj _ f (y .2)) (x .1, y .1)
 
 -- allExtents
-extents-each : (t : Extent → Bool) (d : Extent) (es : List Extent) → allExtents t es ≡ true → (j : ℕ) → j < length es → t (getD es j d) ≡ true
+pub extents-each : (t : Extent → Bool) (d : Extent) (es : List Extent) → allExtents t es ≡ true → (j : ℕ) → j < length es → t (getD es j d) ≡ true
 unfolding allExtents
 extents-each t d [] e j h = absurd (not-suc-le-zero h)
 extents-each t d (x ∷ es) e zero h = and-both (t x) (allExtents t es) e .0
@@ -153,35 +154,39 @@ module _ (total : ℕ) (head : List ℕ) (f : File) (pl : Places) (small : lengt
       by true h = omega (arith, part .room)
       by false h = omega arith
 
--- accepted: every extent of an item lies in the file
-pub extent-within : (total : ℕ) (head : List ℕ) (f : File) → accepted total head ≡ ok f → (r j : ℕ) → r < length (f .items) → j < length (locationOf f (idOf f r) .extents)
+-- AllPlaced: every extent of an item lies in the file
+pub extent-within : (total : ℕ) (head : List ℕ) (f : File) → readFile total head ≡ ok f → AllPlaced total head f → (r j : ℕ) → r < length (f .items) → j < length (locationOf f (idOf f r) .extents)
     → fileOffset (placesIn total head) (locationOf f (idOf f r)) (getD (locationOf f (idOf f r) .extents) j noExtent) + getD (locationOf f (idOf f r) .extents) j noExtent .size ≤ total
 unfolding rule13-14
-extent-within total head f e r j h l =
-    let a = accepted-both total head f e in
-    let x = then-ok _ _ tt (judged-each total head f (a .1) .by-13-14 r h) in
+extent-within total head f e placed r j h l =
+    let x = then-ok _ _ tt (placed r h) in
     let w = and-both (within (storeOf total head f (locationOf f (idOf f r) .method)) (locationOf f (idOf f r))) _ (check-ok 14 _ _ tt (x .2)) .0 in
     let t = extents-each _ noExtent (locationOf f (idOf f r) .extents) w j l in
-    offset-within total head f (placesIn total head) (read-sound total head f (a .0) .within) (idat-part total head f (a .0)) (locationOf f (idOf f r)) (getD (locationOf f (idOf f r) .extents) j noExtent) (leb-true _ _ t)
+    offset-within total head f (placesIn total head) (read-sound total head f e .within) (idat-part total head f e) (locationOf f (idOf f r)) (getD (locationOf f (idOf f r) .extents) j noExtent) (leb-true _ _ t)
 
 -- capped
-capped-same : (x : ℕ) → x < 18446744073709551616 → capped x ≡ x
+pub capped-same : (x : ℕ) → x < 18446744073709551616 → capped x ≡ x
 capped-same x h = pick-yes x 18446744073709551615 (le-leb x 18446744073709551615 (omega arith))
 
--- an accepted file
-words-spelled : (total : ℕ) (head : List ℕ) (f : File) → total < 18446744073709551616 → accepted total head ≡ ok f → Spells (λ l e. extentWords (placesIn total head) l e) (placesIn total head) f
+-- a file whose items keep 13 and 14
+pub words-spelled : (total : ℕ) (head : List ℕ) (f : File) → total < 18446744073709551616 → readFile total head ≡ ok f → AllPlaced total head f → Spells (λ l e. extentWords (placesIn total head) l e) (placesIn total head) f
 unfolding extentRow
-words-spelled total head f few e r j h l =
-    rw (capped-same (fileOffset (placesIn total head) (locationOf f (idOf f r)) (getD (locationOf f (idOf f r) .extents) j noExtent)) (omega (arith, extent-within total head f e r j h l)))
+words-spelled total head f few e placed r j h l =
+    rw (capped-same (fileOffset (placesIn total head) (locationOf f (idOf f r)) (getD (locationOf f (idOf f r) .extents) j noExtent)) (omega (arith, extent-within total head f e placed r j h l)))
+
+pub placed-view : (total : ℕ) (head : List ℕ) (f : File) (x : List ℕ) → total < 18446744073709551616 → readFile total head ≡ ok f → AllPlaced total head f
+    → TableOf (wordsOf total head f ++ x) head (placesIn total head) f
+placed-view total head f x few e placed =
+    let pl = placesIn total head in
+    let b = read-bounds total head f e in
+    subst (λ (w : List ℕ). TableOf (w ++ x) head pl f) (sym (words-table total head f))
+    (view total head pl f (λ l e. extentWords pl l e) _ x (λ l e. refl) (b .0) (from-rows f (sceneOf total head f)) (b .1) (read-makes-sure total head f e) (words-spelled total head f few e placed) (property-parts total head f e))
 
 pub words-view : (total : ℕ) (head : List ℕ) (f : File) (x : List ℕ) → total < 18446744073709551616 → accepted total head ≡ ok f
     → TableOf (wordsOf total head f ++ x) head (placesIn total head) f
 words-view total head f x few e =
-    let pl = placesIn total head in
     let a = accepted-both total head f e in
-    let b = read-bounds total head f (a .0) in
-    subst (λ (w : List ℕ). TableOf (w ++ x) head pl f) (sym (words-table total head f))
-    (view total head pl f (λ l e. extentWords pl l e) _ x (λ l e. refl) (b .0) (from-rows f (sceneOf total head f)) (b .1) (words-spelled total head f few e) (property-parts total head f (a .0)))
+    placed-view total head f x few (a .0) (judged-each total head f (a .1) .by-13-14)
 
 -- the words of a record behind the tenth: the sizes and the depth
 pub words-sizes : (total : ℕ) (head : List ℕ) (f : File) (x : List ℕ) → Bounded f → (r k : ℕ) → r < length (f .items) → k < 5

@@ -18,7 +18,7 @@ use Rattle.records.specs.Rows.{Distinct}
 use Rattle.records.proofs.RawLaws.{rowWords, properties-length, associations-length, targets-length}
 use Rattle.records.proofs.SaidLaws.{derived-total}
 use Rattle.records.proofs.SetsLaws.{getD-from}
-use Rattle.views.specs.View.{TableOf, recordWord, wide, idOf, noExtent}
+use Rattle.views.specs.View.{Sound, TableOf, recordWord, wide, idOf, noExtent}
 use Rattle.views.proofs.LieLaws.{PartIn}
 use Rattle.views.proofs.SpanLaws.{firstOf, named-room, named-span, target-room, target-span, extent-room, extent-span, extentsBy, extents-by-length}
 use Rattle.views.proofs.RegionLaws.{tableBy, Fill, table-length, head-word, record-word, property-word, association-word, target-word, extent-word}
@@ -180,8 +180,8 @@ module _ (total : ℕ) (head : List ℕ) (pl : Places) (f : File) (g : Location 
     length-at = property-at 2 (4112 + 4 * k + 2) (omega arith) refl ∙ property-words (pl .properties) (f .properties) k h .size
 
   -- the table is the file's
-  pub view : Distinct (idsOf (f .items)) → Spells g pl f → PartsIn head pl f → TableOf t head pl f
-  view d spelled parts =
+  pub view : Distinct (idsOf (f .items)) → Sound head pl f → Spells g pl f → PartsIn head pl f → TableOf t head pl f
+  view d sound spelled parts =
       record {
         enough = rw (length-append, table-length _ _ _ _ _ _ fill) (omega arith);
         items = head-word _ _ _ _ _ _ x fill 0 (omega arith);
@@ -190,13 +190,14 @@ module _ (total : ℕ) (head : List ℕ) (pl : Places) (f : File) (g : Location 
         primary = head-word _ _ _ _ _ _ x fill 5 (omega arith);
         bounded = b;
         distinct = d;
+        sound = sound;
         id = row-id;
         type = row-type;
         hidden = row-hidden;
         named-room = λ r h. omega (arith, named-first r h, named-room (f .associations) (idOf f r), b .few-associations);
         named-count = named-many;
         named = named-at;
-        target-room = λ r h. omega (arith, target-first r h, target-room (f .derivations) (idOf f r), b .few-targets);
+        target-room = λ r h. omega (arith, target-first r h, target-room (f .derivations) (idOf f r));
         target-count = target-many;
         target = target-at;
         extent-room = λ r h. omega (arith, extent-first r h, extent-room (f .locations) (idOf f r), b .few-extents);

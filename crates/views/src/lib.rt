@@ -1,6 +1,6 @@
 // A table that was read, seen item by item. Nothing here can be asked for what is not there: what is past an end reads as 0 or nothing.
 ghost use mathlib.Core.Path.{_≡_};
-ghost use mathlib.Core.List.{List};
+ghost use mathlib.Core.List.{List, []};
 ghost use Prim.Native.Nat.{ℕ, _+_, _*_, _%_, _≤_, _<_};
 ghost use lib.ListN.{length, getD, take, drop};
 ghost use Rattle.boxes.specs.Types.{coded, derived, image};
@@ -12,15 +12,39 @@ ghost use Rattle.rules.specs.Words.{associationWord};
 ghost use Rattle.rules.specs.Questions.{noAssociation};
 ghost use Rattle.records.specs.Raw.{capped};
 ghost use Rattle.views.specs.View.{TableOf, recordWord, idOf, noExtent};
+ghost use Rattle.views.specs.Told.{toldRow};
+use records::FoundRow;
 use table::ItemId;
 use table::ItemRow;
 use table::PropertyIndex;
+use table::Table;
 
 // How many items there are.
 pub fn item_count(table: &[u32]) -> usize
     ensures { λ r. ⌜ r ≡ getD (now (table .entry)) 0 0 ⌝ }
 {
     table::word(table, 0) as usize
+}
+
+// The row at a place in table order, which is that of `iinf`.
+pub fn row_at(_table: &[u32], place: usize) -> ItemRow
+    ensures { λ r. ⌜ r .0 ≡ place ⌝ }
+{
+    ItemRow(place)
+}
+
+// The row of an ID, looked for from a row on that the caller hopes for.
+pub fn row_named(table: &[u32], id: ItemId, hope: ItemRow) -> FoundRow
+    ensures { λ r. ⌜ ((head : List ℕ) (pl : Places) (f : File) → TableOf (now (table .entry)) head pl f → r ≡ toldRow (id .0) (f .items)) ⌝ }
+{
+    if table.len() < Table::WORDS {
+        return FoundRow::Nothing;
+    }
+    let n = item_count(table);
+    if 256 < n {
+        return FoundRow::Nothing;
+    }
+    records::row_of(table, n, id, hope)
 }
 
 // A word of the record in a row.
@@ -127,6 +151,7 @@ pub fn property_type(table: &[u32], index: PropertyIndex) -> u32
 // n bytes of s from a place on, or nothing where they are not there.
 pub fn part(s: &[u8], at: usize, n: usize) -> &[u8]
     ensures { λ r. ⌜ (at + n ≤ length (now (s .entry)) → now r ≡ take n (drop at (now (s .entry)))) ⌝ }
+    ensures { λ r. ⌜ (length (now (s .entry)) < at + n → now r ≡ []) ⌝ }
 {
     if at <= s.len() {
         if n <= s.len() - at {

@@ -1,6 +1,7 @@
 -- `views::part` meets its contract. Assumes nothing.
 use native.Mathlib.Nat.{add-sub-cancel-left}
 use native.Mathlib.Omega.{arith}
+use mathlib.Core.Path.{refl}
 use mathlib.Core.Logic.{⊎-elim}
 use borrow.Author.Needs.{needs}
 use Rattle.views.proofs.part.Statement.{statement}
@@ -22,13 +23,13 @@ part-result-end : tie.Need-part-result-end
 part-result-end c = search needs
 
 returns : tie.Need-returns
-returns c = λ h. rw add-sub-cancel-left
+returns c = (λ h. rw add-sub-cancel-left, λ h. absurd (omega arith))
 
 slice-aggregate-result : tie.Need-slice-aggregate-result
 slice-aggregate-result c = search needs
 
 returns-2 : tie.Need-returns-2
-returns-2 c = λ h. ⊎-elim (λ w. absurd (omega arith)) (λ w. absurd (omega arith)) (c .before .if1 .came)
+returns-2 c = (λ h. ⊎-elim (λ w. absurd (omega arith)) (λ w. absurd (omega arith)) (c .before .if1 .came), λ h. refl)
 
 pub part-spec : {M : Type 1} → statement M
 part-spec =

@@ -52,7 +52,7 @@ part-requires : tie.Need-part-requires
 part-requires c κs = search needs
 
 returns-3 : tie.Need-returns-3
-returns-3 c = λ pl f v h. part-read v (c .before .before .before .before .before .before .before .args .index .0) h (c .before .before .before .before .if1 .left) _ _ _ (c .before .before .word .ensures) (c .before .word2 .ensures) (c .part .ensures)
+returns-3 c = λ pl f v h. part-read v (c .before .before .before .before .before .before .before .args .index .0) h (c .before .before .before .before .if1 .left) _ _ _ (c .before .before .word .ensures) (c .before .word2 .ensures) (c .part .ensures .0)
 
 pub property-box-spec : {M : Type 1} → statement M
 property-box-spec =

@@ -1,0 +1,5 @@
+pub mod NamedLaws
+pub mod EssentialLaws
+pub mod IspeLaws
+pub mod SizeLaws
+pub mod FaultLaws

@@ -1,0 +1,95 @@
+-- `declared::essentials_known` meets its contract. The loop's invariant: what is left from j on says the same as the whole. The measure is what is left. Assumes nothing.
+use Prim.Native.Nat.{ℕ, _-_, _≤_, _<_}
+use native.Mathlib.Omega.{arith}
+use mathlib.Core.Path.{_≡_, refl, sym, _∙_}
+use mathlib.Core.List.{List}
+use mathlib.Core.Logic.{⊎-elim}
+use lib.ListN.{length, drop}
+use borrow.Author.Needs.{needs}
+use borrow.Author.Tests.{not-true, not-false}
+use Rattle.contents.specs.File.{File}
+use Rattle.rules.specs.Joined.{associationsOf}
+use Rattle.rules.specs.Places.{Places}
+use Rattle.rules.specs.Rules.{essentialKnown}
+use Rattle.views.specs.View.{TableOf, idOf}
+use Rattle.declared.proofs.EssentialLaws.{essential-not, essential-known, essential-unknown, essential-none}
+use Rattle.declared.proofs.essentials_known.Statement.{statement}
+use Rattle.declared.proofs.essentials_known.Tie as tie
+
+abbrev Inv-loop : tie.InvT-loop
+Inv-loop table row n j₀ j = (j ≤ n) × ((head : List ℕ) (pl : Places) (f : File) → TableOf table head pl f → row .0 < length (f .items) → essentialKnown f (associationsOf f (idOf f (row .0))) ≡ essentialKnown f (drop j (associationsOf f (idOf f (row .0)))))
+
+abbrev μ-loop : tie.MeasureT-loop
+μ-loop table row n j₀ j = n - j
+
+property-count-requires : tie.Need-property-count-requires Inv-loop μ-loop
+property-count-requires c κs = search needs
+
+loop-holds : tie.Need-loop-holds Inv-loop μ-loop
+loop-holds c = (omega arith, λ head pl f v h. refl)
+
+association-of-requires : tie.Need-association-of-requires Inv-loop μ-loop
+association-of-requires c κs = search needs
+
+kind-of-requires : tie.Need-kind-of-requires Inv-loop μ-loop
+kind-of-requires c κs = search needs
+
+is-known-requires : tie.Need-is-known-requires Inv-loop μ-loop
+is-known-requires c κs = search needs
+
+returns : tie.Need-returns Inv-loop μ-loop
+returns c =
+    let a = c .before .before .before .before .before .before .before .before .before .args in
+    let q = c .before .before .before .before .before .before .loop in
+    let w = c .before .before .before .before .association-of in
+    let k = c .before .before .kind-of in
+    let u = c .before .is-known in
+    λ head pl f v h.
+    let l : q .j < length (associationsOf f (idOf f (a .row .0))) = omega (arith, c .before .before .before .before .before .before .before .property-count .ensures head pl f v h) in
+    sym (q .inv .1 head pl f v h ∙ essential-unknown v (idOf f (a .row .0)) (q .j) l (w .result) (w .ensures head pl f v h l) (c .before .before .before .if1 .taken) (k .result) (k .ensures head pl f v h l) (u .result) (u .ensures) (not-true _ (c .if2 .taken)))
+
+add-j : tie.Need-add-j Inv-loop μ-loop
+add-j c = omega arith
+
+loop-less : tie.Need-loop-less Inv-loop μ-loop
+loop-less c = omega arith
+
+loop-again : tie.Need-loop-again Inv-loop μ-loop
+loop-again c =
+    let a = c .before .before .before .before .before .before .args in
+    let q = c .before .before .before .loop in
+    let w = c .before .association-of in (
+      omega arith,
+      λ head pl f v h.
+          let l : q .j < length (associationsOf f (idOf f (a .row .0))) = omega (arith, c .before .before .before .before .property-count .ensures head pl f v h) in
+          let e = w .ensures head pl f v h l in
+          q .inv .1 head pl f v h
+          ∙ ⊎-elim
+          (λ z. essential-known v (idOf f (a .row .0)) (q .j) l (w .result) e (z .0 .taken) (z .1 .result) (z .1 .ensures head pl f v h l) (z .2 .result) (z .2 .ensures) (not-false _ (z .3 .left)))
+          (λ z. essential-not v (idOf f (a .row .0)) (q .j) l (w .result) e (z .left))
+          (c .if1 .came),
+    )
+
+returns-2 : tie.Need-returns-2 Inv-loop μ-loop
+returns-2 c =
+    let a = c .before .before .before .before .args in
+    let q = c .before .loop in
+    λ head pl f v h.
+    sym (q .inv .1 head pl f v h ∙ essential-none f (associationsOf f (idOf f (a .row .0))) (q .j) (omega (arith, c .before .before .property-count .ensures head pl f v h)))
+
+pub essentials-known-spec : {M : Type 1} → statement M
+essentials-known-spec =
+    tie.close
+    (tie.spec
+    Inv-loop
+    μ-loop
+    property-count-requires
+    loop-holds
+    association-of-requires
+    kind-of-requires
+    is-known-requires
+    returns
+    add-j
+    loop-less
+    loop-again
+    returns-2)

@@ -1,0 +1,206 @@
+// Refusals 15 and 16, and what an item's properties say of its size: the properties of an item, one after the other.
+ghost use mathlib.Core.Path.{_≡_};
+ghost use mathlib.Core.List.{List, []};
+ghost use Prim.Native.Nat.{ℕ, _≤_, _<_};
+ghost use lib.ListN.{length, getD};
+ghost use Rattle.fields.specs.Field.{beAt};
+ghost use Rattle.boxes.specs.Types.{knownProperty};
+ghost use Rattle.contents.specs.File.{File};
+ghost use Rattle.pictures.specs.Turn.{size, sizeThrough};
+ghost use Rattle.pictures.specs.Decode.{transform, turnsOf};
+ghost use Rattle.rules.specs.Places.{Places};
+ghost use Rattle.rules.specs.Joined.{associationsOf, boxesOf, typesOf, itemAt};
+ghost use Rattle.rules.specs.Derivations.{declaredIn};
+ghost use Rattle.rules.specs.Rules.{essentialKnown, goodIspe, rule15-16};
+ghost use Rattle.views.specs.View.{TableOf, Judging, idOf};
+ghost use Rattle.views.specs.Told.{faultOf};
+use pictures::Size;
+use table::ItemRow;
+
+const ISPE: u32 = 0x69737065;
+
+const PASP: u32 = 0x70617370;
+
+const COLR: u32 = 0x636f6c72;
+
+const PIXI: u32 = 0x70697869;
+
+const RLOC: u32 = 0x726c6f63;
+
+const AUXC: u32 = 0x61757843;
+
+const CLAP: u32 = 0x636c6170;
+
+const IROT: u32 = 0x69726f74;
+
+const IMIR: u32 = 0x696d6972;
+
+const HVCC: u32 = 0x68766343;
+
+const JPGC: u32 = 0x6a706743;
+
+pub fn is_transform(kind: u32) -> bool
+    ensures { λ r. ⌜ r ≡ transform kind ⌝ }
+{
+    if kind == IROT {
+        return true;
+    }
+    if kind == IMIR {
+        return true;
+    }
+    kind == CLAP
+}
+
+// Whether a type of property is one that this reader knows.
+pub fn is_known(kind: u32) -> bool
+    ensures { λ r. ⌜ r ≡ knownProperty kind ⌝ }
+{
+    match kind {
+        ISPE => true,
+        PASP => true,
+        COLR => true,
+        PIXI => true,
+        RLOC => true,
+        AUXC => true,
+        CLAP => true,
+        IROT => true,
+        IMIR => true,
+        HVCC => true,
+        JPGC => true,
+        _ => false,
+    }
+}
+
+// How many properties an item is associated with.
+fn property_count(table: &[u32], row: ItemRow) -> usize
+    ensures { λ r. ⌜ ((head : List ℕ) (pl : Places) (f : File) → TableOf (now (table .entry)) head pl f → row .0 < length (f .items) → r ≡ length (associationsOf f (idOf f (row .0)))) ⌝ }
+{
+    views::record_word(table, row, 4) as usize
+}
+
+// The type of the property that an item's association with a number from 0 names, 0 where it names nothing.
+fn kind_of(table: &[u32], row: ItemRow, j: usize) -> u32
+    ensures { λ r. ⌜ ((head : List ℕ) (pl : Places) (f : File) → TableOf (now (table .entry)) head pl f → row .0 < length (f .items) → j < length (associationsOf f (idOf f (row .0))) → r ≡ getD (typesOf f (idOf f (row .0))) j 0) ⌝ }
+{
+    views::property_type(table, views::index_of(views::association_of(table, row, j)))
+}
+
+// The property box itself, as a part of the head.
+fn box_of<'a>(head: &'a [u8], table: &[u32], row: ItemRow, j: usize) -> &'a [u8]
+    ensures { λ r. ⌜ ((pl : Places) (f : File) → TableOf (now (table .entry)) (now (head .entry)) pl f → row .0 < length (f .items) → j < length (associationsOf f (idOf f (row .0))) → now r ≡ getD (boxesOf f (idOf f (row .0))) j []) ⌝ }
+{
+    views::property_box(
+        head,
+        table,
+        views::index_of(views::association_of(table, row, j)),
+    )
+}
+
+// Whether every essential property of an item is of a known type.
+fn essentials_known(table: &[u32], row: ItemRow) -> bool
+    ensures { λ r. ⌜ ((head : List ℕ) (pl : Places) (f : File) → TableOf (now (table .entry)) head pl f → row .0 < length (f .items) → r ≡ essentialKnown f (associationsOf f (idOf f (row .0)))) ⌝ }
+{
+    let n = property_count(table, row);
+    let mut j: usize = 0;
+    while j < n {
+        if 32768 <= views::association_of(table, row, j) {
+            if !is_known(kind_of(table, row, j)) {
+                return false;
+            }
+        }
+        j += 1;
+    }
+    true
+}
+
+// Whether an item has one `ispe`, and that before all of its transforms.
+fn has_ispe(table: &[u32], row: ItemRow) -> bool
+    ensures { λ r. ⌜ ((head : List ℕ) (pl : Places) (f : File) → TableOf (now (table .entry)) head pl f → row .0 < length (f .items) → r ≡ goodIspe (typesOf f (idOf f (row .0)))) ⌝ }
+{
+    let n = property_count(table, row);
+    let mut sizes: u32 = 0;
+    let mut turned = false;
+    let mut j: usize = 0;
+    while j < n {
+        let kind = kind_of(table, row, j);
+        if kind == ISPE {
+            if turned {
+                return false;
+            }
+            if sizes == 1 {
+                return false;
+            }
+            sizes = 1;
+        }
+        if is_transform(kind) {
+            turned = true;
+        }
+        j += 1;
+    }
+    sizes == 1
+}
+
+// 15 before 16 for the item in a row, 0 where neither is given.
+pub fn declared_fault(table: &[u32], row: ItemRow) -> u32
+    ensures { λ r. ⌜ ((head : List ℕ) (pl : Places) (f : File) → TableOf (now (table .entry)) head pl f → Judging (now (table .entry)) f → row .0 < length (f .items) → r ≡ faultOf (rule15-16 f (itemAt f (row .0)))) ⌝ }
+{
+    if !views::is_image(views::type_of(table, row)) {
+        return 0;
+    }
+    if views::record_word(table, row, 12) != 0 {
+        return 15;
+    }
+    if !essentials_known(table, row) {
+        return 15;
+    }
+    if !has_ispe(table, row) {
+        return 16;
+    }
+    0
+}
+
+// The size that the content of an `ispe` declares.
+fn ispe_size(b: &[u8]) -> Size
+    ensures { λ r. ⌜ (12 ≤ length (now (b .entry)) → r ≡ size (beAt (now (b .entry)) 4 4) (beAt (now (b .entry)) 8 4)) ⌝ }
+{
+    if b.len() < 12 {
+        return Size { wide: 0, high: 0 };
+    }
+    Size {
+        wide: fields::be32(b, 4),
+        high: fields::be32(b, 8),
+    }
+}
+
+// The size that the first `ispe` of an item declares, nothing where there is none.
+pub fn declared_size(head: &[u8], table: &[u32], row: ItemRow) -> Size
+    ensures { λ r. ⌜ ((pl : Places) (f : File) → TableOf (now (table .entry)) (now (head .entry)) pl f → row .0 < length (f .items) → r ≡ declaredIn (boxesOf f (idOf f (row .0)))) ⌝ }
+{
+    let n = property_count(table, row);
+    let mut j: usize = 0;
+    while j < n {
+        if kind_of(table, row, j) == ISPE {
+            return ispe_size(views::content_of(box_of(head, table, row, j)));
+        }
+        j += 1;
+    }
+    Size { wide: 0, high: 0 }
+}
+
+// The size after all transforms of an item, in association order, of a picture that has the size s before them.
+pub fn output_size(head: &[u8], table: &[u32], row: ItemRow, s: Size) -> Size
+    ensures { λ r. ⌜ ((pl : Places) (f : File) → TableOf (now (table .entry)) (now (head .entry)) pl f → row .0 < length (f .items) → r ≡ sizeThrough (turnsOf s (boxesOf f (idOf f (row .0)))) s) ⌝ }
+{
+    let n = property_count(table, row);
+    let mut size = s;
+    let mut j: usize = 0;
+    while j < n {
+        let kind = kind_of(table, row, j);
+        if is_transform(kind) {
+            let b = views::content_of(box_of(head, table, row, j));
+            size = pictures::size_after(pictures::turn_of(size, kind, b), size);
+        }
+        j += 1;
+    }
+    size
+}

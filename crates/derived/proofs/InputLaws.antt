@@ -1,0 +1,109 @@
+-- The rows that targets name, and the inputs of an item. Assumes nothing.
+--   ResolvedTo t rows f k    the rows of the first k targets
+use Prim.Native.Nat.{ℕ, _+_, _<_, _≤_}
+use native.Mathlib.Nat.{eq-or-lt-of-le}
+use native.Mathlib.Numerals.{add-one}
+use native.Mathlib.Omega.{arith}
+use mathlib.Core.Path.{_≡_, sym, ap, subst, _∙_}
+use mathlib.Core.List.{List}
+use mathlib.Core.Bool.{Bool, true, false, _&&_}
+use mathlib.Core.Logic.{⊎-elim}
+use lib.ListN.{length, getD, set, drop, drop-of-length-le}
+use lib.Seq.{getD-set-same, getD-set-other, drop-cons}
+use Rattle.fields.specs.Lists.{member}
+use Rattle.fields.proofs.FieldLaws.{both}
+use Rattle.boxes.specs.Types.{image}
+use Rattle.table.specs.declared.ItemRow.{ItemRow}
+use Rattle.contents.specs.Iinf.{Item, idsOf}
+use Rattle.contents.specs.File.{File}
+use Rattle.rules.specs.Joined.{targetsOf, rowOf, itemAt}
+use Rattle.rules.specs.Places.{Places}
+use Rattle.rules.specs.Derivations.{allImages}
+use Rattle.records.specs.declared.FoundRow.{FoundRow}
+use Rattle.records.specs.declared.FoundRow.the-variants.{At, Nothing}
+use Rattle.views.specs.View.{TableOf, recordWord, idOf}
+use Rattle.views.specs.Told.{toldRow}
+use Rattle.views.proofs.LookupLaws.{row-of-none, row-listed}
+use Rattle.views.proofs.TableLaws.{row-small}
+use Rattle.derived.specs.Told.{Resolved}
+
+-- toldRow: what a lookup that finds a row says, and one that finds none
+module _ (id : ℕ) (is : List Item) where
+  pub told-at : (r : ItemRow) → At r ≡ toldRow id is → (r .0 ≡ rowOf id is) × (r .0 < length is)
+  unfolding toldRow
+  told-at r =
+      both (λ (x : FoundRow). At r ≡ x → (r .0 ≡ rowOf id is) × (r .0 < length is)) (member id (idsOf is)) _ _
+      (λ e q. let z : r .0 ≡ rowOf id is = cc in (z, omega (arith, row-listed is id e)))
+      (λ e q. let z : _≡_ {A = ℕ} 0 1 = cc in absurd (omega arith))
+
+  pub told-nothing : Nothing ≡ toldRow id is → length is ≡ rowOf id is
+  unfolding toldRow
+  told-nothing =
+      both (λ (x : FoundRow). Nothing ≡ x → length is ≡ rowOf id is) (member id (idsOf is)) _ _
+      (λ e q. let z : _≡_ {A = ℕ} 0 1 = cc in absurd (omega arith))
+      (λ e q. sym (row-of-none is id e))
+
+-- Resolved
+abbrev pub ResolvedTo : List ℕ → List ℕ → File → ℕ → Type 0
+ResolvedTo t rows f k = (i : ℕ) → i < k → getD rows i 0 ≡ rowOf (getD t (7184 + i) 0) (f .items)
+
+pub resolved-more : (t rows : List ℕ) (f : File) (k id row : ℕ) → k < length rows → id ≡ getD t (7184 + k) 0 → row ≡ rowOf id (f .items) → ResolvedTo t rows f k → ResolvedTo t (set rows k row) f (k + 1)
+resolved-more t rows f k id row h d e w i l =
+    ⊎-elim
+    (λ z. subst (λ (m : ℕ). getD (set rows k row) m 0 ≡ rowOf (getD t (7184 + m) 0) (f .items)) (sym z) (getD-set-same rows k row 0 h ∙ e ∙ ap (λ (a : ℕ). rowOf a (f .items)) d))
+    (λ z. getD-set-other rows k i row 0 (λ q. absurd (omega arith)) ∙ w i z)
+    (eq-or-lt-of-le {n = i} {m = k} (omega arith))
+
+module _ {t head : List ℕ} {pl : Places} {f : File} (v : TableOf t head pl f) where
+  -- the whole is resolved where as many are as the table has targets
+  pub resolved-all : (rows : List ℕ) (n k : ℕ) → n ≡ getD t 3 0 → n < k + 1 → ResolvedTo t rows f k → Resolved t rows f
+  resolved-all rows n k e l w i h = w i (omega (arith, v .targets))
+
+  pub targets-few : (n : ℕ) → n ≡ getD t 3 0 → n < 2049
+  targets-few n e = omega (arith, v .targets, v .bounded .few-targets)
+
+  -- the inputs of the item in a row
+  module _ (r : ℕ) (h : r < length (f .items)) where
+    pub inputs-counted : (n : ℕ) → (r < 256 → n ≡ recordWord t r 6) → n ≡ length (targetsOf f (idOf f r))
+    inputs-counted n e = e (row-small v r h) ∙ v .target-count r h
+
+    pub inputs-few : length (targetsOf f (idOf f r)) ≤ 2048
+    inputs-few = omega (arith, v .target-room r h, v .bounded .few-targets)
+
+    pub type-read : (kind : ℕ) → (r < 256 → kind ≡ recordWord t r 1) → kind ≡ itemAt f r .type
+    type-read kind e = e (row-small v r h) ∙ v .type r h
+
+    pub test-read : (test : ℕ → Bool) (kind : ℕ) (b : Bool) → (r < 256 → kind ≡ recordWord t r 1) → b ≡ test kind → test (itemAt f r .type) ≡ b
+    test-read test kind b e q = sym (q ∙ ap test (type-read kind e))
+
+    pub input-row : (rows : List ℕ) → Resolved t rows f → (j : ℕ) → j < length (targetsOf f (idOf f r)) → (first row : ℕ) → (r < 256 → first ≡ recordWord t r 5) → row ≡ getD rows (first + j) 0
+        → row ≡ rowOf (getD (targetsOf f (idOf f r)) j 0) (f .items)
+    input-row rows w j l first row e q =
+        q
+        ∙ ap (λ (a : ℕ). getD rows (a + j) 0) (e (row-small v r h))
+        ∙ w (recordWord t r 5 + j) (omega (arith, v .target-room r h))
+        ∙ ap (λ (a : ℕ). rowOf a (f .items)) (v .target r j h l)
+
+  -- an input is one of the items: what its type is tested for is tested of the item in its row
+  pub input-image : (r j : ℕ) → j < length (targetsOf f (idOf f r)) → (row kind : ℕ) (b : Bool) → row ≡ rowOf (getD (targetsOf f (idOf f r)) j 0) (f .items) → (row < 256 → kind ≡ recordWord t row 1) → b ≡ image kind
+      → b ≡ image (itemAt f (rowOf (getD (targetsOf f (idOf f r)) j 0) (f .items)) .type)
+  input-image r j l row kind b e q z =
+      let m = row-listed (f .items) (getD (targetsOf f (idOf f r)) j 0) (v .sound .listed (idOf f r) j l) in
+      sym (test-read row (omega arith) image kind b q z) ∙ ap (λ (a : ℕ). image (itemAt f a .type)) e
+
+-- allImages, input by input
+module _ (f : File) (ts : List ℕ) where
+  module _ (j : ℕ) (l : j < length ts) (b : Bool) (e : b ≡ image (itemAt f (rowOf (getD ts j 0) (f .items)) .type)) where
+    images-next : allImages f (drop j ts) ≡ (b && allImages f (drop (j + 1) ts))
+    unfolding allImages
+    images-next = ap (allImages f) (drop-cons ts j 0 l) ∙ rw (add-one j, e)
+
+    pub images-not : b ≡ false → allImages f ts ≡ allImages f (drop j ts) → false ≡ allImages f ts
+    images-not q w = sym (w ∙ images-next ∙ rw q)
+
+    pub images-more : b ≡ true → allImages f ts ≡ allImages f (drop j ts) → allImages f ts ≡ allImages f (drop (j + 1) ts)
+    images-more q w = w ∙ images-next ∙ rw q
+
+  pub images-all : (j : ℕ) → length ts < j + 1 → allImages f ts ≡ allImages f (drop j ts) → true ≡ allImages f ts
+  unfolding allImages
+  images-all j h w = sym (w ∙ ap (allImages f) (drop-of-length-le ts {i = j} (omega arith)))

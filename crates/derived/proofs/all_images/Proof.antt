@@ -1,0 +1,82 @@
+-- `derived::all_images` meets its contract. The loop's invariant: all are images if those from here on are. The measure is what is left of them. Assumes nothing.
+use Prim.Native.Nat.{ℕ, _-_, _≤_, _<_}
+use native.Mathlib.Omega.{arith}
+use mathlib.Core.Path.{_≡_, refl}
+use mathlib.Core.List.{List}
+use lib.ListN.{length, drop}
+use borrow.Author.Tests.{not-true, not-false}
+use borrow.Author.Needs.{needs}
+use Rattle.contents.specs.File.{File}
+use Rattle.rules.specs.Joined.{targetsOf}
+use Rattle.rules.specs.Derivations.{allImages}
+use Rattle.rules.specs.Places.{Places}
+use Rattle.views.specs.View.{TableOf, idOf}
+use Rattle.derived.specs.Told.{Resolved}
+use Rattle.derived.proofs.InputLaws.{input-image, images-not, images-more, images-all}
+use Rattle.derived.proofs.all_images.Statement.{statement}
+use Rattle.derived.proofs.all_images.Tie as tie
+
+abbrev Inv-loop : tie.InvT-loop
+Inv-loop table rows row n j₀ j = (j ≤ n) × ((head : List ℕ) (pl : Places) (f : File) → TableOf table head pl f → Resolved table rows f → row .0 < length (f .items) → allImages f (targetsOf f (idOf f (row .0))) ≡ allImages f (drop j (targetsOf f (idOf f (row .0)))))
+
+abbrev μ-loop : tie.MeasureT-loop
+μ-loop table rows row n j₀ j = n - j
+
+input-count-requires : tie.Need-input-count-requires Inv-loop μ-loop
+input-count-requires c κs = search needs
+
+loop-holds : tie.Need-loop-holds Inv-loop μ-loop
+loop-holds c = (omega arith, λ head pl f v w h. refl)
+
+input-of-requires : tie.Need-input-of-requires Inv-loop μ-loop
+input-of-requires c κs = search needs
+
+type-of-requires : tie.Need-type-of-requires Inv-loop μ-loop
+type-of-requires c κs = search needs
+
+is-image-requires : tie.Need-is-image-requires Inv-loop μ-loop
+is-image-requires c κs = search needs
+
+returns : tie.Need-returns Inv-loop μ-loop
+returns c =
+    λ head pl f v w h.
+    let a = c .before .before .before .before .before .before .before .before .before .args in
+    let j = c .before .before .before .before .before .loop .j in
+    let l : j < length (targetsOf f (idOf f (a .row .0))) = omega (arith, c .before .before .before .before .before .before .input-count .ensures head pl f v h) in
+    images-not f _ j l _ (input-image v (a .row .0) j l _ _ _ (c .before .before .before .input-of .ensures head pl f v w h l) (c .before .before .type-of .ensures) (c .before .is-image .ensures)) (not-true _ (c .if1 .taken)) (c .before .before .before .before .before .loop .inv .1 head pl f v w h)
+
+add-j : tie.Need-add-j Inv-loop μ-loop
+add-j c = search needs
+
+loop-less : tie.Need-loop-less Inv-loop μ-loop
+loop-less c = search needs
+
+loop-again : tie.Need-loop-again Inv-loop μ-loop
+loop-again c = (
+  omega arith,
+  λ head pl f v w h.
+      let a = c .before .before .before .before .before .before .before .before .before .args in
+      let j = c .before .before .before .before .before .loop .j in
+      let l : j < length (targetsOf f (idOf f (a .row .0))) = omega (arith, c .before .before .before .before .before .before .input-count .ensures head pl f v h) in
+      images-more f _ j l _ (input-image v (a .row .0) j l _ _ _ (c .before .before .before .input-of .ensures head pl f v w h l) (c .before .before .type-of .ensures) (c .before .is-image .ensures)) (not-false _ (c .if1 .left)) (c .before .before .before .before .before .loop .inv .1 head pl f v w h),
+)
+
+returns-2 : tie.Need-returns-2 Inv-loop μ-loop
+returns-2 c = λ head pl f v w h. images-all f _ (c .before .loop .j) (omega (arith, c .before .before .input-count .ensures head pl f v h)) (c .before .loop .inv .1 head pl f v w h)
+
+pub all-images-spec : {M : Type 1} → statement M
+all-images-spec =
+    tie.close
+    (tie.spec
+    Inv-loop
+    μ-loop
+    input-count-requires
+    loop-holds
+    input-of-requires
+    type-of-requires
+    is-image-requires
+    returns
+    add-j
+    loop-less
+    loop-again
+    returns-2)

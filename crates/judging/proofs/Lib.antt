@@ -1,0 +1,4 @@
+pub mod OrderLaws
+pub mod SceneLaws
+pub mod JudgedLaws
+pub mod JudgeLaws

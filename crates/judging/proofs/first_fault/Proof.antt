@@ -1,0 +1,87 @@
+use Prim.Native.Nat.{_-_, _≤_, _<_}
+use native.Mathlib.Omega.{arith}
+use mathlib.Core.Path.{_≡_, refl, sym, ap, _∙_}
+use lib.ListN.{length}
+use Rattle.contents.specs.File.{File}
+use Rattle.judging.specs.Order.{Ready}
+use Rattle.judging.proofs.OrderLaws.{from, order-end, order-on, order-off, ready-view}
+use borrow.Author.Needs.{needs}
+use Rattle.judging.proofs.first_fault.Statement.{statement}
+use Rattle.judging.proofs.first_fault.Tie as tie
+
+abbrev Inv-loop : tie.InvT-loop
+Inv-loop head total table rows idat rule n k₀ k = (k ≤ n) × ((f : File) → Ready rule table rows head total idat f → from rule total head f 0 ≡ from rule total head f k)
+
+abbrev μ-loop : tie.MeasureT-loop
+μ-loop head total table rows idat rule n k₀ k = n - k
+
+item-count-requires : tie.Need-item-count-requires Inv-loop μ-loop
+item-count-requires c κs = search needs
+
+loop-holds : tie.Need-loop-holds Inv-loop μ-loop
+loop-holds c = (omega arith, λ f w. refl)
+
+row-at-requires : tie.Need-row-at-requires Inv-loop μ-loop
+row-at-requires c κs = search needs
+
+fault-of-requires : tie.Need-fault-of-requires Inv-loop μ-loop
+fault-of-requires c κs = search needs
+
+id-of-requires : tie.Need-id-of-requires Inv-loop μ-loop
+id-of-requires c κs = search needs
+
+cast-t13 : tie.Need-cast-t13 Inv-loop μ-loop
+cast-t13 c = search needs
+
+returns : tie.Need-returns Inv-loop μ-loop
+returns c =
+    λ f w.
+    let a = c .before .before .before .before .before .before .before .before .before .before .before .args in
+    let v = ready-view (a .table .now) (a .rows .now) (a .head .now) (a .total) (a .idat) f (a .rule) w in
+    let h : c .before .before .before .before .before .before .loop .k < length (f .items) = omega (arith, v .items, c .before .before .before .before .before .before .before .item-count .ensures) in
+    let i = c .before .before .before .before .row-at .ensures in
+    let l : c .before .before .before .before .row-at .result .0 < length (f .items) = omega arith in
+    order-off _ _ _ f _ _ _ h (c .before .before .before .before .before .before .loop .inv .1 f w) i (c .before .before .before .fault-of .ensures f w l) (c .before .before .if1 .taken) _ (c .before .id-of .ensures (omega (arith, v .bounded .few-items)) ∙ v .id _ l)
+
+add-k : tie.Need-add-k Inv-loop μ-loop
+add-k c = omega arith
+
+loop-less : tie.Need-loop-less Inv-loop μ-loop
+loop-less c = omega arith
+
+loop-again : tie.Need-loop-again Inv-loop μ-loop
+loop-again c = (
+  omega arith,
+  λ f w.
+      let a = c .before .before .before .before .before .before .before .before .before .args in
+      let v = ready-view (a .table .now) (a .rows .now) (a .head .now) (a .total) (a .idat) f (a .rule) w in
+      let h : c .before .before .before .before .loop .k < length (f .items) = omega (arith, v .items, c .before .before .before .before .before .item-count .ensures) in
+      let i = c .before .before .row-at .ensures in
+      let l : c .before .before .row-at .result .0 < length (f .items) = omega arith in
+      order-on _ _ _ f _ _ _ h (c .before .before .before .before .loop .inv .1 f w) i (c .before .fault-of .ensures f w l) (c .if1 .left),
+)
+
+returns-2 : tie.Need-returns-2 Inv-loop μ-loop
+returns-2 c =
+    λ f w.
+    let a = c .before .before .before .before .before .before .args in
+    let v = ready-view (a .table .now) (a .rows .now) (a .head .now) (a .total) (a .idat) f (a .rule) w in
+    order-end _ _ _ f (c .before .loop .k) (omega (arith, v .items, c .before .before .item-count .ensures)) (c .before .loop .inv .1 f w)
+
+pub first-fault-spec : {M : Type 1} → statement M
+first-fault-spec =
+    tie.close
+    (tie.spec
+    Inv-loop
+    μ-loop
+    item-count-requires
+    loop-holds
+    row-at-requires
+    fault-of-requires
+    id-of-requires
+    cast-t13
+    returns
+    add-k
+    loop-less
+    loop-again
+    returns-2)

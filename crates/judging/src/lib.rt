@@ -1,0 +1,204 @@
+// Judging: refusals 12 to 20 in the order of document 01, and the sizes into the table.
+ghost use mathlib.Core.Path.{_≡_};
+ghost use mathlib.Core.List.{List};
+ghost use Prim.Native.Nat.{ℕ, _≤_, _<_};
+ghost use lib.ListN.{length, drop};
+ghost use Rattle.contents.specs.Iinf.{Item};
+ghost use Rattle.contents.specs.File.{File};
+ghost use Rattle.rules.specs.Joined.{itemAt};
+ghost use Rattle.rules.specs.Derivations.{sceneOf};
+ghost use Rattle.rules.specs.Rules.{inOrder, rule18, rule19, rule20, byDepth};
+ghost use Rattle.views.specs.Told.{faultOf};
+ghost use Rattle.sizing.specs.Drawn.{Drawn};
+ghost use Rattle.judging.specs.Order.{ruleBy, itemsJudged, picturesJudged, Early, Ready, toldJudged, Read, JudgedBy};
+use boxes::Refusal;
+use table::ItemRow;
+
+pub enum Judged {
+    Good,
+    Refused(Refusal),
+}
+
+// A rule that is asked of each item in table order.
+pub enum Rule {
+    // 13 before 14.
+    Placed,
+    // 15 before 16.
+    Declared,
+    // 17, 18, 19.
+    Derived,
+    Itself,
+    Deep,
+    // 20, for the pictures of one depth.
+    Sized(u32),
+}
+
+// 18 for the item in a row. No picture that is at most 16 deep is derived from itself.
+fn itself_fault(table: &[u32], rows: &[u32], row: ItemRow) -> u32
+    ensures { λ r. ⌜ ((total : ℕ) (head : List ℕ) (f : File) → Drawn (now (table .entry)) (now (rows .entry)) head total f → row .0 < length (f .items) → r ≡ faultOf (rule18 (sceneOf total head f) (row .0) (itemAt f (row .0)))) ⌝ }
+{
+    if views::record_word(table, row, 14) <= 16 {
+        return 0;
+    }
+    let n = views::item_count(table);
+    if 256 < n {
+        return 0;
+    }
+    if depths::derives_itself(table, rows, n, row) {
+        return 18;
+    }
+    0
+}
+
+// 19 for the item in a row.
+fn deep_fault(table: &[u32], row: ItemRow) -> u32
+    ensures { λ r. ⌜ ((total : ℕ) (head rows : List ℕ) (f : File) → Drawn (now (table .entry)) rows head total f → row .0 < length (f .items) → r ≡ faultOf (rule19 (sceneOf total head f) (row .0) (itemAt f (row .0)))) ⌝ }
+{
+    if 16 < views::record_word(table, row, 14) {
+        return 19;
+    }
+    0
+}
+
+// 20 for the item in a row, if it is a picture of a depth.
+fn size_fault(head: &[u8], table: &[u32], rows: &[u32], depth: u32, row: ItemRow) -> u32
+    ensures { λ r. ⌜ ((total : ℕ) (f : File) → Drawn (now (table .entry)) (now (rows .entry)) (now (head .entry)) total f → row .0 < length (f .items) → r ≡ faultOf (rule20 (sceneOf total (now (head .entry)) f) depth (row .0) (itemAt f (row .0)))) ⌝ }
+{
+    if views::record_word(table, row, 14) != depth {
+        return 0;
+    }
+    if !views::is_image(views::type_of(table, row)) {
+        return 0;
+    }
+    if sizing::good_sizes(head, table, rows, row) {
+        return 0;
+    }
+    20
+}
+
+// The number that a rule refuses the item in a row by, 0 where it does not.
+fn fault_of(
+    head: &[u8],
+    total: u64,
+    table: &[u32],
+    rows: &[u32],
+    idat: usize,
+    rule: Rule,
+    row: ItemRow,
+) -> u32
+    ensures { λ r. ⌜ ((f : File) → Ready rule (now (table .entry)) (now (rows .entry)) (now (head .entry)) total idat f → row .0 < length (f .items) → r ≡ faultOf (ruleBy rule total (now (head .entry)) f (row .0) (itemAt f (row .0)))) ⌝ }
+{
+    match rule {
+        Rule::Placed => placed::place_fault(table, row, total, idat),
+        Rule::Declared => declared::declared_fault(table, row),
+        Rule::Derived => derived::derived_fault(head, table, rows, row),
+        Rule::Itself => itself_fault(table, rows, row),
+        Rule::Deep => deep_fault(table, row),
+        Rule::Sized(depth) => size_fault(head, table, rows, depth, row),
+    }
+}
+
+// The first item in table order that a rule refuses.
+fn first_fault(
+    head: &[u8],
+    total: u64,
+    table: &[u32],
+    rows: &[u32],
+    idat: usize,
+    rule: Rule,
+) -> Judged
+    ensures { λ r. ⌜ ((f : File) → Ready rule (now (table .entry)) (now (rows .entry)) (now (head .entry)) total idat f → r ≡ toldJudged (inOrder (ruleBy rule total (now (head .entry)) f) 0 (f .items))) ⌝ }
+{
+    let n = views::item_count(table);
+    let mut k: usize = 0;
+    while k < n {
+        let row = views::row_at(table, k);
+        let number = fault_of(head, total, table, rows, idat, rule, row);
+        if number != 0 {
+            return Judged::Refused(Refusal {
+                number,
+                place: views::id_of(table, row).0 as u64,
+            });
+        }
+        k += 1;
+    }
+    Judged::Good
+}
+
+// 20, by rising depth.
+fn by_depth(head: &[u8], total: u64, table: &[u32], rows: &[u32], idat: usize) -> Judged
+    ensures { λ r. ⌜ ((f : File) → Drawn (now (table .entry)) (now (rows .entry)) (now (head .entry)) total f → r ≡ toldJudged (byDepth (sceneOf total (now (head .entry)) f) (f .items) 17 0)) ⌝ }
+{
+    let mut depth: u32 = 0;
+    while depth < 17 {
+        let j = first_fault(head, total, table, rows, idat, Rule::Sized(depth));
+        match j {
+            Judged::Refused(f) => {
+                return Judged::Refused(f);
+            }
+            Judged::Good => {
+                depth += 1;
+            }
+        }
+    }
+    Judged::Good
+}
+
+// 13 to 17, on the table as it was read.
+fn judge_items(head: &[u8], total: u64, table: &[u32], rows: &[u32], idat: usize) -> Judged
+    ensures { λ r. ⌜ ((f : File) → Early (now (table .entry)) (now (rows .entry)) (now (head .entry)) total idat f → r ≡ toldJudged (itemsJudged total (now (head .entry)) f)) ⌝ }
+{
+    let p = first_fault(head, total, table, rows, idat, Rule::Placed);
+    match p {
+        Judged::Refused(f) => Judged::Refused(f),
+        Judged::Good => {
+            let d = first_fault(head, total, table, rows, idat, Rule::Declared);
+            match d {
+                Judged::Refused(f) => Judged::Refused(f),
+                Judged::Good => first_fault(head, total, table, rows, idat, Rule::Derived),
+            }
+        }
+    }
+}
+
+// 18 to 20, on the table with sizes and depths.
+fn judge_pictures(head: &[u8], total: u64, table: &[u32], rows: &[u32], idat: usize) -> Judged
+    ensures { λ r. ⌜ ((f : File) → Drawn (now (table .entry)) (now (rows .entry)) (now (head .entry)) total f → r ≡ toldJudged (picturesJudged total (now (head .entry)) f)) ⌝ }
+{
+    let i = first_fault(head, total, table, rows, idat, Rule::Itself);
+    match i {
+        Judged::Refused(f) => Judged::Refused(f),
+        Judged::Good => {
+            let d = first_fault(head, total, table, rows, idat, Rule::Deep);
+            match d {
+                Judged::Refused(f) => Judged::Refused(f),
+                Judged::Good => by_depth(head, total, table, rows, idat),
+            }
+        }
+    }
+}
+
+// The table of a file that was read becomes that of the accepted file, or the first fault of 12 to 20 is given.
+pub fn judge(head: &[u8], total: u64, table: &mut [u32], idat: usize) -> Judged
+    requires { ⌜ ((f : File) × (x : List ℕ) × Read (now table) (now head) total idat f x) ⌝ }
+    ensures { λ r. ⌜ ((f : File) (x : List ℕ) → Read (now (table .entry)) (now (head .entry)) total idat f x → JudgedBy (now (head .entry)) total f x r (now (table .exit))) ⌝ }
+    ensures { λ _. ⌜ drop 11280 (now (table .exit)) ≡ drop 11280 (now (table .entry)) ⌝ }
+{
+    if !placed::good_primary(&*table) {
+        return Judged::Refused(Refusal {
+            number: 12,
+            place: table::word(&*table, 5) as u64,
+        });
+    }
+    let rows = derived::resolve(&*table);
+    let items = judge_items(head, total, &*table, &rows, idat);
+    match items {
+        Judged::Refused(f) => Judged::Refused(f),
+        Judged::Good => {
+            let n = views::item_count(&*table);
+            let d = depths::depths_of(&*table, &rows, n);
+            sizing::fill_sizes(head, table, &d);
+            judge_pictures(head, total, &*table, &rows, idat)
+        }
+    }
+}

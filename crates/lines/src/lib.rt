@@ -1,0 +1,65 @@
+// The lines of the listing program, for one file.
+ghost use mathlib.Core.Path.{_≡_};
+ghost use lib.ListN.{length};
+use boxes::Refusal;
+use still::FileVerdict;
+use table::ItemId;
+use table::ItemRow;
+
+fn print_field(n: u64) {
+    io::write_all(1, b"\t");
+    io::print_decimal(1, n);
+}
+
+// `refused`, number, place.
+fn print_refusal(f: Refusal) {
+    io::write_all(1, b"refused");
+    print_field(f.number as u64);
+    print_field(f.place);
+    io::write_all(1, b"\n");
+}
+
+fn print_word(table: &[u32], row: ItemRow, k: usize) {
+    if k < 16 {
+        print_field(views::record_word(table, row, k) as u64);
+    }
+}
+
+// `item`, ID, type in hex, hidden, reconstructed width, height, output width, height, depth.
+fn print_item(table: &[u32], row: ItemRow) {
+    io::write_all(1, b"item");
+    print_word(table, row, 0);
+    io::write_all(1, b"\t");
+    io::print_hex(1, views::type_of(table, row) as u64, 8);
+    print_word(table, row, 2);
+    let mut k: usize = 10;
+    while k < 15 {
+        print_word(table, row, k);
+        k += 1;
+    }
+    io::write_all(1, b"\n");
+}
+
+// `file`, total, primary ID, items; then a line for each item.
+fn print_file(table: &[u32], total: u64, primary: ItemId, items: u32) {
+    io::write_all(1, b"file");
+    print_field(total);
+    print_field(primary.0 as u64);
+    print_field(items as u64);
+    io::write_all(1, b"\n");
+    let n = items as usize;
+    let mut k: usize = 0;
+    while k < n {
+        print_item(table, views::row_at(table, k));
+        k += 1;
+    }
+}
+
+// What the listing program prints for a file: its lines, or the refusal.
+pub fn print_listing(head: &[u8], total: u64, table: &mut [u32]) {
+    let v = still::verdict(head, total, table);
+    match v {
+        FileVerdict::Refused(f) => print_refusal(f),
+        FileVerdict::Accepted { items, primary } => print_file(&*table, total, primary, items),
+    }
+}

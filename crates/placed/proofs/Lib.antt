@@ -1,0 +1,3 @@
+pub mod PrimaryLaws
+pub mod ExtentLaws
+pub mod PlaceLaws

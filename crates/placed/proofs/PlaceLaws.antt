@@ -1,0 +1,123 @@
+-- 13 and 14 by the words of an item's record and the ends of its extents. Assumes nothing.
+use Prim.Native.Nat.{ℕ, _+_, _≤_, _<_}
+use native.Mathlib.Omega.{arith}
+use mathlib.Core.Path.{_≡_, refl, sym, ap, _∙_, fun-ext}
+use mathlib.Core.List.{List, [], _∷_}
+use mathlib.Core.Bool.{Bool, true, false, _&&_, not}
+use lib.ListN.{length}
+use lib.Dec.{leb, eqb}
+use borrow.Author.Tests.{leb-true, leb-false, eqb-true, eqb-false, le-leb, lt-leb, eq-eqb, ne-eqb}
+use Rattle.fields.specs.Choice.{pick}
+use Rattle.fields.proofs.TestLaws.{untrue, and-both}
+use Rattle.boxes.specs.Answer.{_>>_, check}
+use Rattle.boxes.specs.Types.{coded}
+use Rattle.boxes.proofs.HeaderLaws.{and-false}
+use Rattle.contents.specs.Iloc.{Extent, Location}
+use Rattle.contents.specs.Iinf.{Item}
+use Rattle.contents.specs.File.{File}
+use Rattle.rules.specs.Bytes.{Store, storeOf, allExtents, goodMethod, goodLengths, within}
+use Rattle.rules.specs.Derivations.{nothingIn}
+use Rattle.rules.specs.Joined.{locationOf, itemAt}
+use Rattle.rules.specs.Places.{Places, fileOffset}
+use Rattle.rules.specs.Rules.{hasBytes, rule13-14}
+use Rattle.views.specs.View.{TableOf, Judging, recordWord, idOf}
+use Rattle.views.specs.Told.{faultOf}
+use Rattle.views.proofs.TableLaws.{row-small}
+use Rattle.placed.proofs.ExtentLaws.{extents-count}
+
+-- _&&_
+and-true : (b : Bool) → (b && true) ≡ b
+and-true true = refl
+and-true false = refl
+
+-- leb
+same-leb : (a b c d : ℕ) → (a ≤ b → c ≤ d) → (c ≤ d → a ≤ b) → leb a b ≡ leb c d
+same-leb a b c d there back = by (leb a b) (leb c d) refl refl
+  where
+    by : (t u : Bool) → leb a b ≡ t → leb c d ≡ u → leb a b ≡ leb c d
+    by true true e q = e ∙ sym q
+    by true false e q = absurd (omega (arith, there (leb-true a b e), leb-false c d q))
+    by false true e q = absurd (omega (arith, back (leb-true c d q), leb-false a b e))
+    by false false e q = e ∙ sym q
+
+-- nothingIn
+nothing-in : {A : Type 0} (l : List A) → nothingIn l ≡ true → length l ≡ 0
+nothing-in [] e = refl
+nothing-in (x ∷ l) e = untrue e
+
+in-nothing : {A : Type 0} (l : List A) → length l ≡ 0 → nothingIn l ≡ true
+in-nothing [] e = refl
+in-nothing (x ∷ l) e = absurd (omega arith)
+
+-- within: in bytes of the source, and in places of the file, where the source ends at `end`
+within-before : (total : ℕ) (head : List ℕ) (f : File) (pl : Places) (l : Location) (end : ℕ) → (l .method ≡ 1 → end ≡ pl .idat + length (f .idat)) → ((l .method ≡ 1 → ⊥) → end ≡ total)
+    → within (storeOf total head f (l .method)) l ≡ allExtents (λ (e : Extent). leb (fileOffset pl l e + e .size) end) (l .extents)
+unfolding fileOffset pick
+within-before total head f pl l end inside outside = ap (λ (t : Extent → Bool). allExtents t (l .extents)) (fun-ext (λ (e : Extent). by e (eqb (l .method) 1) refl))
+  where
+    by : (e : Extent) (t : Bool) → eqb (l .method) 1 ≡ t
+        → leb (l .base + e .offset + e .size) (pick {A = Store} t (record { size = length (f .idat); known = f .idat }) (record { size = total; known = head }) .size)
+        ≡ leb (pick t (pl .idat) 0 + (l .base + e .offset) + e .size) end
+    by e true q = let z = inside (eqb-true (l .method) 1 q) in same-leb (l .base + e .offset + e .size) (length (f .idat)) (pl .idat + (l .base + e .offset) + e .size) end (λ h. omega arith) (λ h. omega arith)
+    by e false q = let z = outside (eqb-false (l .method) 1 q) in same-leb (l .base + e .offset + e .size) total (0 + (l .base + e .offset) + e .size) end (λ h. omega arith) (λ h. omega arith)
+
+-- the item in row r, by the words of its record
+module _ {t head : List ℕ} {pl : Places} {f : File} (v : TableOf t head pl f) (r : ℕ) (h : r < length (f .items)) where
+  module _ (m : ℕ) (e : r < 256 → m ≡ recordWord t r 9) where
+    method-read : m ≡ locationOf f (idOf f r) .method
+    method-read = e (row-small v r h) ∙ v .method r h
+
+    pub method-unknown : 1 < m → false ≡ (goodMethod (locationOf f (idOf f r)) && goodLengths (locationOf f (idOf f r)))
+    method-unknown l = rw (← method-read, lt-leb m 1 l) refl
+
+    module _ (total : ℕ) where
+      pub within-idat : m ≡ 1 → (end : ℕ) → pl .idat + length (f .idat) ≡ end
+          → within (storeOf total head f (locationOf f (idOf f r) .method)) (locationOf f (idOf f r)) ≡ allExtents (λ (e : Extent). leb (fileOffset pl (locationOf f (idOf f r)) e + e .size) end) (locationOf f (idOf f r) .extents)
+      within-idat q end z = within-before total head f pl (locationOf f (idOf f r)) end (λ x. sym z) (λ x. absurd (x (sym method-read ∙ q)))
+
+      pub within-file : (m ≡ 1 → ⊥)
+          → within (storeOf total head f (locationOf f (idOf f r) .method)) (locationOf f (idOf f r)) ≡ allExtents (λ (e : Extent). leb (fileOffset pl (locationOf f (idOf f r)) e + e .size) total) (locationOf f (idOf f r) .extents)
+      within-file q = within-before total head f pl (locationOf f (idOf f r)) total (λ x. absurd (q (method-read ∙ x))) (λ x. refl)
+
+    module _ (w : Judging t f) (few : m ≤ 1) (d : ℕ) (q : r < 256 → d ≡ recordWord t r 10) where
+      reference-read : d ≡ locationOf f (idOf f r) .reference
+      reference-read = q (row-small v r h) ∙ w .reference r h
+
+      pub reference-elsewhere : (d ≡ 0 → ⊥) → false ≡ (goodMethod (locationOf f (idOf f r)) && goodLengths (locationOf f (idOf f r)))
+      reference-elsewhere z = rw (← method-read, ← reference-read, le-leb m 1 few, ne-eqb d 0 z) refl
+
+      pub reference-here : d ≡ 0 → (g : Bool) → g ≡ goodLengths (locationOf f (idOf f r)) → g ≡ (goodMethod (locationOf f (idOf f r)) && goodLengths (locationOf f (idOf f r)))
+      reference-here z g y = rw (← method-read, ← reference-read, le-leb m 1 few, eq-eqb d 0 z) y
+
+  -- hasBytes
+  module _ (n : ℕ) (e : r < 256 → n ≡ recordWord t r 8) where
+    pub bytes-none : n ≡ 0 → (k : ℕ) → (r < 256 → k ≡ recordWord t r 1) → (b : Bool) → b ≡ coded k → not b ≡ hasBytes f (itemAt f r)
+    bytes-none z k q b p =
+        let y : b ≡ coded (itemAt f r .type) = p ∙ ap (λ (x : ℕ). coded x) (q (row-small v r h) ∙ v .type r h) in
+        rw (in-nothing (locationOf f (idOf f r) .extents) (sym (extents-count v r n h e) ∙ z), ← y) (ap not (sym (and-true b)))
+
+    pub bytes-some : (n ≡ 0 → ⊥) → true ≡ hasBytes f (itemAt f r)
+    bytes-some z = sym (ap not (and-false (coded (itemAt f r .type)) _ (λ a b. z (extents-count v r n h e ∙ nothing-in (locationOf f (idOf f r) .extents) b))))
+
+-- rule13-14: by three answers, each needed only where those before it are yes
+module _ (total : ℕ) (head : List ℕ) (f : File) (i : Item) (good : Bool) (e : good ≡ (goodMethod (locationOf f (i .id)) && goodLengths (locationOf f (i .id)))) where
+  pub fault-13 : good ≡ false → 13 ≡ faultOf (rule13-14 total head f i)
+  unfolding rule13-14 faultOf check _>>_
+  fault-13 n = rw (← e, n) refl
+
+  module _ (y : good ≡ true) (inside : Bool) (q : goodLengths (locationOf f (i .id)) ≡ true → inside ≡ within (storeOf total head f (locationOf f (i .id) .method)) (locationOf f (i .id))) where
+    inside-is : inside ≡ within (storeOf total head f (locationOf f (i .id) .method)) (locationOf f (i .id))
+    inside-is = q (and-both (goodMethod (locationOf f (i .id))) _ (sym e ∙ y) .1)
+
+    pub fault-outside : inside ≡ false → 14 ≡ faultOf (rule13-14 total head f i)
+    unfolding rule13-14 faultOf check _>>_
+    fault-outside n = rw (← e, y, ← inside-is, n) refl
+
+    module _ (z : inside ≡ true) (full : Bool) (p : full ≡ hasBytes f i) where
+      pub fault-empty : full ≡ false → 14 ≡ faultOf (rule13-14 total head f i)
+      unfolding rule13-14 faultOf check _>>_
+      fault-empty n = rw (← e, y, ← inside-is, z, ← p, n) refl
+
+      pub fault-none : full ≡ true → 0 ≡ faultOf (rule13-14 total head f i)
+      unfolding rule13-14 faultOf check _>>_
+      fault-none n = rw (← e, y, ← inside-is, z, ← p, n) refl

@@ -1,0 +1,77 @@
+-- `placed::has_lengths` meets its contract. Assumes nothing.
+use Prim.Native.Nat.{ℕ, _-_, _<_}
+use native.Mathlib.Omega.{arith}
+use mathlib.Core.Path.{_≡_, refl}
+use mathlib.Core.List.{List}
+use mathlib.Core.Bool.{not}
+use lib.ListN.{length, drop}
+use lib.Dec.{eqb}
+use borrow.Author.Needs.{needs}
+use Rattle.contents.specs.Iloc.{Extent}
+use Rattle.contents.specs.File.{File}
+use Rattle.rules.specs.Bytes.{allExtents, goodLengths}
+use Rattle.rules.specs.Joined.{locationOf}
+use Rattle.rules.specs.Places.{Places}
+use Rattle.views.specs.View.{TableOf, idOf}
+use Rattle.placed.proofs.ExtentLaws.{extents-count, extents-fail, extents-on, extents-pass, some-length, no-length}
+use Rattle.placed.proofs.has_lengths.Statement.{statement}
+use Rattle.placed.proofs.has_lengths.Tie as tie
+
+abbrev Inv-loop : tie.InvT-loop
+Inv-loop table row n j₀ j =
+    (head : List ℕ) (pl : Places) (f : File) → TableOf table head pl f → row .0 < length (f .items)
+    → goodLengths (locationOf f (idOf f (row .0))) ≡ allExtents (λ (e : Extent). not (eqb (e .size) 0)) (drop j (locationOf f (idOf f (row .0)) .extents))
+
+abbrev μ-loop : tie.MeasureT-loop
+μ-loop table row n j₀ j = n - j
+
+record-word-requires : tie.Need-record-word-requires Inv-loop μ-loop
+record-word-requires c κs = search needs
+
+cast-n : tie.Need-cast-n Inv-loop μ-loop
+cast-n c = search needs
+
+loop-holds : tie.Need-loop-holds Inv-loop μ-loop
+loop-holds c = λ head pl f v h. refl
+
+extent-of-requires : tie.Need-extent-of-requires Inv-loop μ-loop
+extent-of-requires c κs = search needs
+
+returns : tie.Need-returns Inv-loop μ-loop
+returns c = λ head pl f v h.
+    let l = extents-count v (c .before .before .before .before .before .before .before .args .row .0) _ h (c .before .before .before .before .before .record-word .ensures) in
+    let q = c .before .before .extent-of .ensures head pl f v h (omega arith) in
+    extents-fail _ _ (c .before .before .before .before .loop .j) (c .before .before .before .before .loop .inv head pl f v h) (omega arith) (no-length _ _ (q .0) (c .if1 .taken))
+
+add-j : tie.Need-add-j Inv-loop μ-loop
+add-j c = search needs
+
+loop-less : tie.Need-loop-less Inv-loop μ-loop
+loop-less c = search needs
+
+loop-again : tie.Need-loop-again Inv-loop μ-loop
+loop-again c = λ head pl f v h.
+    let l = extents-count v (c .before .before .before .before .before .before .before .args .row .0) _ h (c .before .before .before .before .before .record-word .ensures) in
+    let q = c .before .before .extent-of .ensures head pl f v h (omega arith) in
+    extents-on _ _ (c .before .before .before .before .loop .j) (c .before .before .before .before .loop .inv head pl f v h) (omega arith) (some-length _ _ (q .0) (c .if1 .left))
+
+returns-2 : tie.Need-returns-2 Inv-loop μ-loop
+returns-2 c = λ head pl f v h.
+    let l = extents-count v (c .before .before .before .before .args .row .0) _ h (c .before .before .record-word .ensures) in
+    extents-pass _ _ (c .before .loop .j) (c .before .loop .inv head pl f v h) (omega arith)
+
+pub has-lengths-spec : {M : Type 1} → statement M
+has-lengths-spec =
+    tie.close
+    (tie.spec
+    Inv-loop
+    μ-loop
+    record-word-requires
+    cast-n
+    loop-holds
+    extent-of-requires
+    returns
+    add-j
+    loop-less
+    loop-again
+    returns-2)

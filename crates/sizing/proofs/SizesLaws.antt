@@ -1,0 +1,187 @@
+-- Rule 20 for one picture, over a table that has sizes: the sizes of a row, those of a picture's inputs, and what its recipe makes of them. Assumes nothing.
+--   madeBy s p x    what rule 20 says of a picture whose recipe is read as x
+--   Feeds x is      the inputs `is` of a recipe that is read as x, where a first one is asked for
+use Prim.Native.Nat.{ℕ, zero, suc, _+_, _*_, _<_, _≤_}
+use native.Mathlib.Numerals.{add-one}
+use native.Mathlib.Omega.{arith}
+use mathlib.Core.Path.{_≡_, refl, sym, ap, subst, _∙_}
+use mathlib.Core.List.{List, [], _∷_, map}
+use mathlib.Core.Bool.{Bool, true, false, _&&_}
+use lib.ListN.{length, getD, drop, length-map, drop-of-length-le}
+use lib.Dec.{leb}
+use Rattle.boxes.specs.Answer.{ok}
+use Rattle.boxes.specs.Types.{image}
+use Rattle.contents.specs.File.{File}
+use Rattle.pictures.specs.declared.Size.{Size}
+use Rattle.pictures.specs.Turn.{size}
+use Rattle.pictures.specs.Recipe.{Recipe, Coded, Copy, Opaque, Tiles, Layers, Grid}
+use Rattle.pictures.specs.Scene.{Picture, Scene, pictureAt, outputOf, sameSize, goodSize, firstInput, allSize, madeUp, goodSizes}
+use Rattle.pictures.specs.GoodScene.{Shaped}
+use Rattle.rules.specs.Joined.{targetsOf, rowOf, itemAt}
+use Rattle.rules.specs.Derivations.{recipeOf, sceneOf}
+use Rattle.rules.proofs.SceneLaws.{inputs-at, recipe-ok, inputs-fed}
+use Rattle.views.specs.View.{SizesAre, recordWord, idOf}
+use Rattle.views.proofs.LookupLaws.{row-listed}
+use Rattle.declared.proofs.NamedLaws.{left-from}
+use Rattle.derived.specs.Told.{toldBy, toldRecipe}
+use Rattle.derived.specs.declared.RecipeRead.{RecipeRead}
+use Rattle.derived.specs.declared.RecipeRead.the-variants as read
+use Rattle.sizing.specs.Drawn.{Drawn, tilesFit}
+
+-- SizesAre: the two sizes in a row
+module _ {t : List ℕ} {s : Scene} (w : SizesAre t s) (r : ℕ) (h : r < length s) (a b : ℕ) where
+  row-here : r < 256
+  row-here = omega (arith, w .few)
+
+  pub declared-read : (r < 256 → a ≡ recordWord t r 10) → (r < 256 → b ≡ recordWord t r 11) → size a b ≡ pictureAt s r .declared
+  declared-read p q = rw (p row-here ∙ w .wide r h, q row-here ∙ w .high r h)
+
+  pub output-read : (r < 256 → a ≡ recordWord t r 12) → (r < 256 → b ≡ recordWord t r 13) → size a b ≡ outputOf (pictureAt s r)
+  output-read p q = rw (p row-here ∙ w .output-wide r h, q row-here ∙ w .output-high r h)
+
+-- allSize, input by input
+module _ (s : Scene) (z : Size) (is : List ℕ) where
+  module _ (j : ℕ) (l : j < length is) (b : Bool) (e : b ≡ sameSize (outputOf (pictureAt s (getD is j 0))) z) where
+    size-next : allSize s z (drop j is) ≡ (b && allSize s z (drop (j + 1) is))
+    unfolding allSize
+    size-next = ap (allSize s z) (left-from is j 0 l) ∙ rw e
+
+    pub size-other : b ≡ false → allSize s z is ≡ allSize s z (drop j is) → false ≡ allSize s z is
+    size-other q w = sym (w ∙ size-next ∙ rw q)
+
+    pub size-more : b ≡ true → allSize s z is ≡ allSize s z (drop j is) → allSize s z is ≡ allSize s z (drop (j + 1) is)
+    size-more q w = w ∙ size-next ∙ rw q
+
+  pub size-all : (j : ℕ) → length is ≤ j → allSize s z is ≡ allSize s z (drop j is) → true ≡ allSize s z is
+  unfolding allSize
+  size-all j h w = sym (w ∙ ap (allSize s z) (drop-of-length-le is {i = j} h))
+
+-- map
+map-in : (g : ℕ → ℕ) (l : List ℕ) (j : ℕ) → j < length l → getD (map g l) j 0 ≡ g (getD l j 0)
+map-in g [] j h = absurd (omega arith)
+map-in g (x ∷ l) zero h = refl
+map-in g (x ∷ l) (suc j) h = map-in g l j (omega arith)
+
+-- sceneOf: as many pictures as items
+pub scene-many : (total : ℕ) (head : List ℕ) (f : File) → length (sceneOf total head f) ≡ length (f .items)
+scene-many total head f = rw length-map
+
+-- tilesFit, test by test
+module _ (s : Scene) (p : Picture) (g : Grid) (tile : Size) (e : tile ≡ firstInput s p) where
+  pub tiles-unlike : allSize s tile (p .inputs) ≡ false → false ≡ tilesFit s p g
+  unfolding tilesFit
+  tiles-unlike q = rw (← e, q)
+
+  module _ (a : allSize s tile (p .inputs) ≡ true) where
+    pub tiles-narrow : leb (g .wide) (tile .wide * g .columns) ≡ false → false ≡ tilesFit s p g
+    unfolding tilesFit
+    tiles-narrow q = rw (← e, a, q)
+
+    module _ (b : leb (g .wide) (tile .wide * g .columns) ≡ true) where
+      pub tiles-low : leb (g .high) (tile .high * g .rows) ≡ false → false ≡ tilesFit s p g
+      unfolding tilesFit
+      tiles-low q = rw (← e, a, b, q)
+
+      pub tiles-over : leb (g .high) (tile .high * g .rows) ≡ true → (z : Size) → z ≡ p .declared → (t : Bool) → t ≡ sameSize z (size (g .wide) (g .high)) → t ≡ tilesFit s p g
+      unfolding tilesFit
+      tiles-over q z d t h = rw (← e, a, b, q, ← d) h
+
+-- madeUp, by the recipe that is read
+abbrev pub madeBy : Scene → Picture → RecipeRead → Bool
+madeBy s p read.Coded = true
+madeBy s p read.Copy = sameSize (p .declared) (firstInput s p)
+madeBy s p read.Opaque = true
+madeBy s p (read.Tiles down across wide high) = tilesFit s p (record { rows = down; columns = across; wide = wide; high = high })
+madeBy s p (read.Layers wide high) = sameSize (p .declared) (size wide high)
+madeBy s p read.Wrong = true
+
+made-told : (s : Scene) (p : Picture) (r : Recipe) → madeUp s p r ≡ madeBy s p (toldBy r)
+unfolding madeUp toldBy tilesFit
+made-told s p Coded = refl
+made-told s p Copy = refl
+made-told s p Opaque = refl
+made-told s p (Tiles g) = refl
+made-told s p (Layers o) = refl
+
+abbrev pub Feeds : RecipeRead → List ℕ → Type 0
+Feeds read.Coded is = Unit {0}
+Feeds read.Copy is = 0 < length is
+Feeds read.Opaque is = Unit {0}
+Feeds (read.Tiles down across wide high) is = 0 < length is
+Feeds (read.Layers wide high) is = Unit {0}
+Feeds read.Wrong is = Unit {0}
+
+shaped-feeds : (r : Recipe) (is : List ℕ) → Shaped r is → Feeds (toldBy r) is
+unfolding toldBy
+shaped-feeds Coded is h = tt
+shaped-feeds Copy is h = omega arith
+shaped-feeds Opaque is h = tt
+shaped-feeds (Tiles g) is h = h .1
+shaped-feeds (Layers o) is h = tt
+
+-- Drawn: the inputs of a picture, and the sizes that the table has of them
+module _ {t rows head : List ℕ} {total : ℕ} {f : File} (d : Drawn t rows head total f) (r : ℕ) (i : image (itemAt f r .type) ≡ true) where
+  abbrev s : Scene
+  s = sceneOf total head f
+
+  abbrev p : Picture
+  p = pictureAt s r
+
+  abbrev targets : List ℕ
+  targets = targetsOf f (idOf f r)
+
+  pub inputs-many : length (p .inputs) ≡ length targets
+  inputs-many = ap length (inputs-at total head f r i) ∙ length-map targets (λ (t : ℕ). rowOf t (f .items))
+
+  input-at : (j : ℕ) → j < length targets → getD (p .inputs) j 0 ≡ rowOf (getD targets j 0) (f .items)
+  input-at j l = ap (λ (is : List ℕ). getD is j 0) (inputs-at total head f r i) ∙ map-in (λ (t : ℕ). rowOf t (f .items)) targets j l
+
+  -- k is the row of the input with number j, z the output size in that row
+  pub input-size : (j : ℕ) → j < length targets → (k : ℕ) → k ≡ rowOf (getD targets j 0) (f .items) → (z : Size) → ((s : Scene) → SizesAre t s → k < length s → z ≡ outputOf (pictureAt s k)) → z ≡ outputOf (pictureAt s (getD (p .inputs) j 0))
+  input-size j l k e z o =
+      let m = row-listed (f .items) (getD targets j 0) (d .view .sound .listed (idOf f r) j l) in
+      o s (d .sizes) (omega (arith, scene-many total head f)) ∙ ap (λ (k : ℕ). outputOf (pictureAt s k)) (e ∙ sym (input-at j l))
+
+  -- the recipe is read as x
+  module _ (h : r < length (f .items)) (x : RecipeRead) (e : x ≡ toldRecipe (recipeOf total head f (itemAt f r))) where
+    recipe-read : toldBy (p .recipe) ≡ x
+    unfolding toldRecipe
+    recipe-read = let k = recipe-ok total head f r i (d .fed r h) in ap toldBy (k .2) ∙ sym (e ∙ ap toldRecipe (k .1))
+
+    pub made-read : (y : RecipeRead) → x ≡ y → madeBy s p y ≡ madeUp s p (p .recipe)
+    made-read y q = sym (made-told s p (p .recipe) ∙ ap (madeBy s p) (recipe-read ∙ q))
+
+    fed-read : (y : RecipeRead) → x ≡ y → Feeds y targets
+    fed-read y q = subst (λ (y : RecipeRead). Feeds y targets) (recipe-read ∙ q) (shaped-feeds (p .recipe) targets (inputs-fed total head f r i (d .fed r h) .0))
+
+    pub made-copy : x ≡ read.Copy → (k : ℕ) → (0 < length targets → k ≡ rowOf (getD targets 0 0) (f .items)) → (a z : Size) → a ≡ p .declared → ((s : Scene) → SizesAre t s → k < length s → z ≡ outputOf (pictureAt s k)) → (b : Bool) → b ≡ sameSize a z
+        → b ≡ madeUp s p (p .recipe)
+    made-copy q k g a z ea o b eb =
+        let l = fed-read read.Copy q in
+        eb ∙ ap (λ (y : Size). sameSize y z) ea ∙ ap (sameSize (p .declared)) (input-size 0 l k (g l) z o) ∙ made-read read.Copy q
+
+    pub made-tiles : (down across wide high : ℕ) → x ≡ read.Tiles down across wide high → (b : Bool) → (0 < length (p .inputs) → b ≡ tilesFit s p (record { rows = down; columns = across; wide = wide; high = high })) → b ≡ madeUp s p (p .recipe)
+    made-tiles down across wide high q b g =
+        let l = fed-read (read.Tiles down across wide high) q in
+        g (omega (arith, inputs-many)) ∙ made-read (read.Tiles down across wide high) q
+
+    pub made-layers : (wide high : ℕ) → x ≡ read.Layers wide high → (a : Size) → a ≡ p .declared → (b : Bool) → b ≡ sameSize a (size wide high) → b ≡ madeUp s p (p .recipe)
+    made-layers wide high q a ea b eb = eb ∙ ap (λ (y : Size). sameSize y (size wide high)) ea ∙ made-read (read.Layers wide high) q
+
+-- goodSizes, test by test
+module _ (s : Scene) (p : Picture) where
+  pub good-unmade : madeUp s p (p .recipe) ≡ false → false ≡ goodSizes s p
+  unfolding goodSizes
+  good-unmade q = rw q
+
+  module _ (m : madeUp s p (p .recipe) ≡ true) (a : Size) (e : a ≡ p .declared) where
+    pub good-undeclared : goodSize a ≡ false → false ≡ goodSizes s p
+    unfolding goodSizes
+    good-undeclared q = rw (m, ← e, q)
+
+    good-rest : goodSize a ≡ true → goodSizes s p ≡ goodSize (outputOf p)
+    unfolding goodSizes
+    good-rest q = rw (m, ← e, q)
+
+    pub good-declared : goodSize a ≡ true → (z : Size) → z ≡ outputOf p → (b : Bool) → b ≡ goodSize z → b ≡ goodSizes s p
+    good-declared q z o b h = h ∙ ap (λ (y : Size). goodSize y) o ∙ sym (good-rest q)

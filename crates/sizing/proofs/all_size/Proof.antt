@@ -1,0 +1,87 @@
+-- `sizing::all_size` meets its contract. The loop's invariant: all have the size if those from here on have it. The measure is what is left of them. Assumes nothing.
+use Prim.Native.Nat.{ℕ, _-_, _≤_, _<_}
+use mathlib.Core.Path.{_≡_, refl, ap, _∙_}
+use mathlib.Core.List.{List}
+use mathlib.Core.Bool.{true}
+use lib.ListN.{length, drop}
+use borrow.Author.Tests.{not-true, not-false}
+use Rattle.boxes.specs.Types.{image}
+use Rattle.contents.specs.File.{File}
+use Rattle.pictures.specs.declared.Size.{Size}
+use Rattle.pictures.specs.Scene.{pictureAt, sameSize, allSize}
+use Rattle.rules.specs.Joined.{targetsOf, itemAt}
+use Rattle.rules.specs.Derivations.{sceneOf}
+use Rattle.views.specs.View.{idOf}
+use Rattle.sizing.specs.Drawn.{Drawn}
+use Rattle.sizing.proofs.SizesLaws.{size-other, size-more, size-all, inputs-many, input-size}
+use native.Mathlib.Omega.{arith}
+use borrow.Author.Needs.{needs}
+use Rattle.sizing.proofs.all_size.Statement.{statement}
+use Rattle.sizing.proofs.all_size.Tie as tie
+
+abbrev Inv-loop : tie.InvT-loop
+Inv-loop table rows row z n j₀ j = (j ≤ n) × ((total : ℕ) (head : List ℕ) (f : File) → Drawn table rows head total f → row .0 < length (f .items) → image (itemAt f (row .0) .type) ≡ true → allSize (sceneOf total head f) z (pictureAt (sceneOf total head f) (row .0) .inputs) ≡ allSize (sceneOf total head f) z (drop j (pictureAt (sceneOf total head f) (row .0) .inputs)))
+
+abbrev μ-loop : tie.MeasureT-loop
+μ-loop table rows row z n j₀ j = n - j
+
+input-count-requires : tie.Need-input-count-requires Inv-loop μ-loop
+input-count-requires c κs = search needs
+
+loop-holds : tie.Need-loop-holds Inv-loop μ-loop
+loop-holds c = (omega arith, λ total head f d h i. refl)
+
+input-of-requires : tie.Need-input-of-requires Inv-loop μ-loop
+input-of-requires c κs = search needs
+
+output-in-requires : tie.Need-output-in-requires Inv-loop μ-loop
+output-in-requires c κs = search needs
+
+is-same-requires : tie.Need-is-same-requires Inv-loop μ-loop
+is-same-requires c κs = search needs
+
+returns : tie.Need-returns Inv-loop μ-loop
+returns c =
+    λ total head f d h i.
+    let r = c .before .before .before .before .before .before .before .before .before .args .row .0 in
+    let j = c .before .before .before .before .before .loop .j in
+    let l : j < length (targetsOf f (idOf f r)) = omega (arith, c .before .before .before .before .before .before .input-count .ensures head _ f (d .view) h) in
+    let k : j < length (pictureAt (sceneOf total head f) r .inputs) = omega (arith, inputs-many d r i) in
+    size-other (sceneOf total head f) _ _ j k _ (c .before .is-same .ensures ∙ ap (λ (y : Size). sameSize y (c .before .before .before .before .before .before .before .before .before .args .z)) (input-size d r i j l _ (c .before .before .before .input-of .ensures head _ f (d .view) (d .resolved) h l) _ (c .before .before .output-in .ensures))) (not-true _ (c .if1 .taken)) (c .before .before .before .before .before .loop .inv .1 total head f d h i)
+
+add-j : tie.Need-add-j Inv-loop μ-loop
+add-j c = search needs
+
+loop-less : tie.Need-loop-less Inv-loop μ-loop
+loop-less c = search needs
+
+loop-again : tie.Need-loop-again Inv-loop μ-loop
+loop-again c = (
+  omega arith,
+  λ total head f d h i.
+      let r = c .before .before .before .before .before .before .before .before .before .args .row .0 in
+      let j = c .before .before .before .before .before .loop .j in
+      let l : j < length (targetsOf f (idOf f r)) = omega (arith, c .before .before .before .before .before .before .input-count .ensures head _ f (d .view) h) in
+      let k : j < length (pictureAt (sceneOf total head f) r .inputs) = omega (arith, inputs-many d r i) in
+      size-more (sceneOf total head f) _ _ j k _ (c .before .is-same .ensures ∙ ap (λ (y : Size). sameSize y (c .before .before .before .before .before .before .before .before .before .args .z)) (input-size d r i j l _ (c .before .before .before .input-of .ensures head _ f (d .view) (d .resolved) h l) _ (c .before .before .output-in .ensures))) (not-false _ (c .if1 .left)) (c .before .before .before .before .before .loop .inv .1 total head f d h i),
+)
+
+returns-2 : tie.Need-returns-2 Inv-loop μ-loop
+returns-2 c = λ total head f d h i. size-all (sceneOf total head f) _ _ (c .before .loop .j) (omega (arith, c .before .before .input-count .ensures head _ f (d .view) h, inputs-many d (c .before .before .before .before .before .args .row .0) i)) (c .before .loop .inv .1 total head f d h i)
+
+pub all-size-spec : {M : Type 1} → statement M
+all-size-spec =
+    tie.close
+    (tie.spec
+    Inv-loop
+    μ-loop
+    input-count-requires
+    loop-holds
+    input-of-requires
+    output-in-requires
+    is-same-requires
+    returns
+    add-j
+    loop-less
+    loop-again
+    returns-2)

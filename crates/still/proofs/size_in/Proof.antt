@@ -1,0 +1,53 @@
+use native.Mathlib.Omega.{arith}
+use mathlib.Core.Path.{sym, _∙_}
+use lib.ListN.{length-map}
+use Rattle.rules.specs.Derivations.{sceneOf}
+use Rattle.still.proofs.QuestionLaws.{size-off, size-row, size-on}
+use borrow.Author.Needs.{needs}
+use Rattle.still.proofs.size_in.Statement.{statement}
+use Rattle.still.proofs.size_in.Tie as tie
+
+picture-row-requires : tie.Need-picture-row-requires
+picture-row-requires c κs = search needs
+
+enum-known-p : tie.Need-enum-known-p
+enum-known-p c = search needs
+
+enum-known-p-2 : tie.Need-enum-known-p-2
+enum-known-p-2 c = search needs
+
+record-word-requires : tie.Need-record-word-requires
+record-word-requires c κs = search needs
+
+record-word-requires-2 : tie.Need-record-word-requires-2
+record-word-requires-2 c κs = search needs
+
+record-word-requires-3 : tie.Need-record-word-requires-3
+record-word-requires-3 c κs = search needs
+
+record-word-requires-4 : tie.Need-record-word-requires-4
+record-word-requires-4 c κs = search needs
+
+record-word-requires-5 : tie.Need-record-word-requires-5
+record-word-requires-5 c κs = search needs
+
+returns : tie.Need-returns
+returns c = λ total head pl f v z. size-off _ f _ _ (sym (c .before .before .before .picture-row .ensures head pl f v) ∙ c .before .p .given .1)
+
+returns-2 : tie.Need-returns-2
+returns-2 c = λ total head pl f v z. let q = sym (c .before .before .before .before .before .before .before .before .picture-row .ensures head pl f v) ∙ c .before .before .before .before .before .before .p2 .given .1 in let l = size-row (sceneOf total head f) f _ _ q in size-on _ f _ _ q _ _ _ _ _ (c .before .before .before .before .record-word .ensures (omega (arith, l, v .bounded .few-items)) ∙ z .wide _ (rw length-map l)) (c .before .before .before .record-word2 .ensures (omega (arith, l, v .bounded .few-items)) ∙ z .high _ (rw length-map l)) (c .before .before .record-word3 .ensures (omega (arith, l, v .bounded .few-items)) ∙ z .output-wide _ (rw length-map l)) (c .before .record-word4 .ensures (omega (arith, l, v .bounded .few-items)) ∙ z .output-high _ (rw length-map l)) (c .record-word5 .ensures (omega (arith, l, v .bounded .few-items)) ∙ z .depths _ (rw length-map l))
+
+pub size-in-spec : {M : Type 1} → statement M
+size-in-spec =
+    tie.close
+    (tie.spec
+    picture-row-requires
+    enum-known-p
+    enum-known-p-2
+    record-word-requires
+    record-word-requires-2
+    record-word-requires-3
+    record-word-requires-4
+    record-word-requires-5
+    returns
+    returns-2)
