@@ -1,12 +1,15 @@
 // Answers questions about many heads: reads them from standard input and prints a line for each, as in the files with the right answers.
-// The input: how many heads (4 bytes); for each its name (length in 4 bytes, then the letters), the file's total (8), its bytes (length in 4, then the bytes), how many questions (4); for each question its kind (4: 0 verdict, 1 table, 2 size) and an item ID (4).
+// The input: how many heads (4 bytes); for each its name (length in 4 bytes, then the letters), the file's total (8), its bytes (length in 4, then the bytes), how many questions (4); for each question its kind (4: 0 verdict, 1 table, 2 size, 3 trace, 4 sources, 5 property), an item ID (4) and two numbers (4 each).
 // The table is never cleared between calls, and has 20 words more than it needs.
 ghost use mathlib.Core.Path.{_≡_};
 ghost use Prim.Native.Nat.{_<_};
 ghost use lib.ListN.{length};
 use boxes::Refusal;
+use pictures::Point;
 use still::FileVerdict;
+use still::Listed;
 use still::Sized;
+use still::Traced;
 use table::ItemId;
 
 fn read_number() -> u32 {
@@ -85,9 +88,121 @@ fn print_size(head: &[u8], total: u64, table: &mut [u32], id: u32) {
     }
 }
 
+fn print_asked(id: u32, x: u32, y: u32) {
+    io::print_decimal(1, id as u64);
+    print_more(x as u64);
+    print_more(y as u64);
+    io::write_all(1, b"\t");
+}
+
+fn print_end(kind: &[u8], item: ItemId, x: u32, y: u32, passed: u32) {
+    io::write_all(1, kind);
+    print_more(item.0 as u64);
+    print_more(x as u64);
+    print_more(y as u64);
+    print_more(passed as u64);
+    io::write_all(1, b"\n");
+}
+
+fn print_trace(head: &[u8], total: u64, table: &mut [u32], id: u32, x: u32, y: u32) {
+    io::write_all(1, b"trace\t");
+    print_asked(id, x, y);
+    let t = still::trace(head, total, table, ItemId(id), Point { x, y });
+    match t {
+        Traced::Pixel { item, x, y, passed } => print_end(b"pixel", item, x, y, passed),
+        Traced::Fill { item, x, y, passed } => print_end(b"fill", item, x, y, passed),
+        Traced::Refused(f) => print_refusal(f),
+    }
+}
+
+// A list in which something is left from before.
+fn used_list() -> [u32; 300]
+    ensures { λ r. ⌜ 300 ≡ length r ⌝ }
+{
+    [9; 300]
+}
+
+fn print_list(list: &[u32], n: usize) {
+    let mut i: usize = 0;
+    while i < n {
+        if i == 0 {
+            io::print_decimal(1, table::word(list, i) as u64);
+        } else {
+            print_more(table::word(list, i) as u64);
+        }
+        i += 1;
+    }
+    io::write_all(1, b"\n");
+}
+
+fn print_listed(head: &[u8], total: u64, table: &mut [u32], id: u32, list: &mut [u32]) {
+    let l = still::sources(head, total, table, ItemId(id), list);
+    match l {
+        Listed::Is(n) => print_list(&*list, n),
+        Listed::Refused(f) => print_refusal(f),
+    }
+}
+
+fn print_sources(head: &[u8], total: u64, table: &mut [u32], id: u32, room: u32) {
+    io::write_all(1, b"sources\t");
+    io::print_decimal(1, id as u64);
+    print_more(room as u64);
+    io::write_all(1, b"\t");
+    let mut list = used_list();
+    let n = room as usize;
+    if n <= 300 {
+        print_listed(head, total, table, id, &mut list[..n]);
+    }
+}
+
+fn wide(x: u8) -> u64
+    ensures { λ r. ⌜ r ≡ x ⌝ }
+{
+    x as u64
+}
+
+// A sum over bytes that changes with each of them and with their order.
+fn sum_of(b: &[u8]) -> u64
+    ensures { λ r. ⌜ r < 4294967296 ⌝ }
+{
+    let mut sum: u64 = 0;
+    let mut i: usize = 0;
+    while i < b.len() {
+        sum = (sum * 31 + wide(b[i])) % 4294967296;
+        i += 1;
+    }
+    sum
+}
+
+// The length of a part and a sum over its bytes, or the refusal.
+fn print_part(told: [u64; 2], part: &[u8]) {
+    if told[0] == 0 {
+        io::print_decimal(1, part.len() as u64);
+        print_more(sum_of(part));
+        io::write_all(1, b"\n");
+        return;
+    }
+    io::write_all(1, b"refused");
+    print_more(told[0]);
+    print_more(told[1]);
+    io::write_all(1, b"\n");
+}
+
+fn print_property(head: &[u8], total: u64, table: &mut [u32], id: u32, k: u32) {
+    io::write_all(1, b"prop\t");
+    io::print_decimal(1, id as u64);
+    print_more(k as u64);
+    io::write_all(1, b"\t");
+    let mut told = [7u64; 2];
+    let part = still::property(head, total, table, ItemId(id), k, &mut told);
+    print_part(told, part);
+}
+
 fn answer(name: &[u8], head: &[u8], total: u64, table: &mut [u32]) {
     let kind = read_number();
     let id = read_number();
+    let x = read_number();
+    let y = read_number();
     io::write_all(1, name);
     io::write_all(1, b"\t");
     io::print_decimal(1, total);
@@ -95,7 +210,10 @@ fn answer(name: &[u8], head: &[u8], total: u64, table: &mut [u32]) {
     match kind {
         0 => print_verdict(head, total, table),
         1 => print_table(head, total, table),
-        _ => print_size(head, total, table, id),
+        2 => print_size(head, total, table, id),
+        3 => print_trace(head, total, table, id, x, y),
+        4 => print_sources(head, total, table, id, x),
+        _ => print_property(head, total, table, id, x),
     }
 }
 

@@ -125,7 +125,7 @@ module _ {t head : List ℕ} {pl : Places} {f : File} (v : TableOf t head pl f) 
     index-small : getD (associationsOf f id) j noAssociation .index < 32768
     index-small = omega (arith, v .sound .indexed id j l, v .bounded .few-properties)
 
-    index-read : w % 32768 ≡ getD (associationsOf f id) j noAssociation .index
+    pub index-read : w % 32768 ≡ getD (associationsOf f id) j noAssociation .index
     index-read = ap (λ (x : ℕ). x % 32768) e ∙ word-index _ index-small (getD (associationsOf f id) j noAssociation .essential)
 
     pub marked-read : 32768 ≤ w → getD (associationsOf f id) j noAssociation .essential ≡ true

@@ -44,10 +44,10 @@ module _ (b : List ℕ) (bs : List (List ℕ)) where
 -- from the box with number j on, whose type is k
 module _ {t head : List ℕ} {pl : Places} {f : File} (v : TableOf t head pl f) (id j : ℕ) (l : j < length (associationsOf f id))
     (k : ℕ) (e : k ≡ getD (typesOf f id) j 0) where
-  boxes-left : drop j (boxesOf f id) ≡ getD (boxesOf f id) j [] ∷ drop (j + 1) (boxesOf f id)
+  pub boxes-left : drop j (boxesOf f id) ≡ getD (boxesOf f id) j [] ∷ drop (j + 1) (boxesOf f id)
   boxes-left = left-from (boxesOf f id) j [] (omega (arith, boxes-many f id))
 
-  kind-said : k ≡ kindOf (getD (boxesOf f id) j [])
+  pub kind-said : k ≡ kindOf (getD (boxesOf f id) j [])
   kind-said = e ∙ type-at f id j
 
   pub declared-skip : (k ≡ ispe → ⊥) → declaredIn (drop j (boxesOf f id)) ≡ declaredIn (drop (j + 1) (boxesOf f id))
@@ -76,13 +76,15 @@ module _ {t head : List ℕ} {pl : Places} {f : File} (v : TableOf t head pl f) 
     content-sized : transform k ≡ true → Sized k c
     content-sized q = rw (kind-said, content-said) (held-sized _ _ (box-held v id j l) (ap transform (sym kind-said) ∙ q))
 
+    pub turn-read : (s : Size) (u : Turn) → transform k ≡ true → (Sized k c → u ≡ turnBy s k c) → u ≡ turnOf s (getD (boxesOf f id) j [])
+    turn-read s u q g = g (content-sized q) ∙ rw (kind-said, content-said) (sym (turn-by s (getD (boxesOf f id) j [])))
+
     pub through-read : (s r : Size) (u : Turn) → transform k ≡ true → (Sized k c → u ≡ turnBy s k c) → r ≡ sizeAfter u s
         → sizeThrough (turnsOf s (drop j (boxesOf f id))) s ≡ sizeThrough (turnsOf r (drop (j + 1) (boxesOf f id))) r
     through-read s r u q g er =
-        let z : u ≡ turnOf s (getD (boxesOf f id) j []) = g (content-sized q) ∙ rw (kind-said, content-said) (sym (turn-by s (getD (boxesOf f id) j []))) in
         ap (λ (bs : List (List ℕ)). sizeThrough (turnsOf s bs) s) boxes-left
         ∙ through-turn _ _ s (ap transform (sym kind-said) ∙ q)
-        ∙ ap (λ (x : Size). sizeThrough (turnsOf x (drop (j + 1) (boxesOf f id))) x) (sym (er ∙ ap (λ (y : Turn). sizeAfter y s) z))
+        ∙ ap (λ (x : Size). sizeThrough (turnsOf x (drop (j + 1) (boxesOf f id))) x) (sym (er ∙ ap (λ (y : Turn). sizeAfter y s) (turn-read s u q g)))
 
 -- past the last box
 module _ (bs : List (List ℕ)) (j : ℕ) (h : length bs ≤ j) where

@@ -72,21 +72,21 @@ pub fn is_known(kind: u32) -> bool
 }
 
 // How many properties an item is associated with.
-fn property_count(table: &[u32], row: ItemRow) -> usize
+pub fn property_count(table: &[u32], row: ItemRow) -> usize
     ensures { λ r. ⌜ ((head : List ℕ) (pl : Places) (f : File) → TableOf (now (table .entry)) head pl f → row .0 < length (f .items) → r ≡ length (associationsOf f (idOf f (row .0)))) ⌝ }
 {
     views::record_word(table, row, 4) as usize
 }
 
 // The type of the property that an item's association with a number from 0 names, 0 where it names nothing.
-fn kind_of(table: &[u32], row: ItemRow, j: usize) -> u32
+pub fn kind_of(table: &[u32], row: ItemRow, j: usize) -> u32
     ensures { λ r. ⌜ ((head : List ℕ) (pl : Places) (f : File) → TableOf (now (table .entry)) head pl f → row .0 < length (f .items) → j < length (associationsOf f (idOf f (row .0))) → r ≡ getD (typesOf f (idOf f (row .0))) j 0) ⌝ }
 {
     views::property_type(table, views::index_of(views::association_of(table, row, j)))
 }
 
 // The property box itself, as a part of the head.
-fn box_of<'a>(head: &'a [u8], table: &[u32], row: ItemRow, j: usize) -> &'a [u8]
+pub fn box_of<'a>(head: &'a [u8], table: &[u32], row: ItemRow, j: usize) -> &'a [u8]
     ensures { λ r. ⌜ ((pl : Places) (f : File) → TableOf (now (table .entry)) (now (head .entry)) pl f → row .0 < length (f .items) → j < length (associationsOf f (idOf f (row .0))) → now r ≡ getD (boxesOf f (idOf f (row .0))) j []) ⌝ }
 {
     views::property_box(

@@ -1,5 +1,5 @@
--- Marks spread from row to input; what is marked at last is what a row is derived from. Assumes nothing.
---   Found t rows n r marks more    what holds of the marks while they spread from row r: nothing is left to mark where there is no more
+-- Marks spread from row to input; what is marked at last is what a row is derived from, or what it needs. Assumes nothing.
+--   Found t rows n I marks more    what holds of the marks while they spread from the rows I: nothing is left to mark where there is no more
 use Prim.Native.Nat.{ℕ, zero, suc, _+_, _*_, _≤_, _<_}
 use native.Mathlib.Decide.{ℕ-discrete}
 use native.Mathlib.Nat.{eq-or-lt-of-le, le-of-suc-le-suc}
@@ -11,13 +11,14 @@ use mathlib.Core.Logic.{_⊎_, inl, inr, ⊎-elim}
 use lib.ListN.{length, getD, set, replicate}
 use lib.Seq.{getD-set-same, getD-set-other}
 use lib.Dec.{eqb}
-use borrow.Author.Tests.{eq-eqb, ne-eqb}
+use borrow.Author.Tests.{eq-eqb, ne-eqb, eqb-true}
 use Rattle.fields.specs.Choice.{pick}
 use Rattle.fields.specs.Lists.{member}
-use Rattle.fields.proofs.TestLaws.{untrue}
+use Rattle.fields.proofs.TestLaws.{untrue, or-either}
 use Rattle.pictures.specs.Scene.{Scene, pictureAt}
-use Rattle.pictures.specs.Depth.{Derives, from, over, reaches, derivesItself}
-use Rattle.pictures.proofs.DepthLaws.{reaches-derives, derives-reaches, itself-derives, derives-itself}
+use Rattle.pictures.specs.Depth.{Derives, from, over, reaches, derivesItself, depth}
+use Rattle.pictures.specs.Sources.{needs}
+use Rattle.pictures.proofs.DepthLaws.{reaches-derives, derives-reaches, shallow-reaches, itself-derives, derives-itself}
 use Rattle.depths.specs.Inputs.{InputsAre}
 use Rattle.depths.specs.Rounds.{inputs, inputAt}
 use Rattle.depths.specs.Marks.{Marked, Bits, bare, Among, IsInput, Passes, Grown, Spread, Round}
@@ -30,6 +31,10 @@ or-took p e f = rw e f
 
 pub or-left : (p : Bool) {q r : Bool} → q ≡ false → r ≡ p → r ≡ (q || p)
 or-left p e f = rw e f
+
+either-second : (p q : Bool) → q ≡ true → (p || q) ≡ true
+either-second true q e = refl
+either-second false q e = e
 
 -- bare
 bare-set : (l : List ℕ) (x : ℕ) → x < length l → getD l x 0 ≡ 0 → bare (set l x 1) < bare l
@@ -136,11 +141,11 @@ module _ (t rows : List ℕ) where
       pub round-turn : Marked b r → (c : List ℕ) (q : Bool) → length c ≡ length b → Spread (IsInput t rows r) b c q → new ≡ c → s ≡ (q || p) → (length new ≡ length a) × Round t rows (r + 1) a new s
       round-turn n c q l u e f = rw e (l ∙ same, round-on c q s same f n u)
 
--- the marks while they spread from row r
-pub record Found (t rows : List ℕ) (n r : ℕ) (marks : List ℕ) (more : Bool) : Type 0 where
+-- the marks while they spread from the rows I
+pub record Found (t rows : List ℕ) (n : ℕ) (I : ℕ → Type 0) (marks : List ℕ) (more : Bool) : Type 0 where
   pub bits : Bits marks
-  pub first : (x : ℕ) → IsInput t rows r x → x < 256 → Marked marks x
-  pub sound : (Q : ℕ → Bool) → Passes t rows n Q → ((x : ℕ) → IsInput t rows r x → Q x ≡ true) → (x : ℕ) → Marked marks x → Q x ≡ true
+  pub first : (x : ℕ) → I x → x < 256 → Marked marks x
+  pub sound : (Q : ℕ → Bool) → Passes t rows n Q → ((x : ℕ) → I x → Q x ≡ true) → (x : ℕ) → Marked marks x → Q x ≡ true
   pub closed : more ≡ false → (i x : ℕ) → i < n → Marked marks i → IsInput t rows i x → x < 256 → Marked marks x
 
 pub zeros-bits : Bits (replicate 256 0)
@@ -150,8 +155,8 @@ zeros-bits x = omega (arith, zeros 256 x)
 unmarked : {A : Type 0} (x : ℕ) → Marked (replicate 256 0) x → A
 unmarked x m = let z = zeros 256 x in absurd (omega arith)
 
-module _ (t rows : List ℕ) (n r : ℕ) where
-  pub found-first : (marks : List ℕ) (more : Bool) → Spread (IsInput t rows r) (replicate 256 0) marks more → Found t rows n r marks more
+module _ (t rows : List ℕ) (n : ℕ) (I : ℕ → Type 0) where
+  pub found-first : (marks : List ℕ) (more : Bool) → Spread I (replicate 256 0) marks more → Found t rows n I marks more
   found-first marks more s = record {
     bits = s .grown .bits;
     first = s .all;
@@ -159,7 +164,7 @@ module _ (t rows : List ℕ) (n r : ℕ) where
     closed = λ e i x h m. unmarked i (subst (λ (l : List ℕ). Marked l i) (s .grown .quiet e) m);
   }
 
-  pub found-next : (old new : List ℕ) (more still : Bool) → length old ≡ 256 → Found t rows n r old more → Round t rows n old new still → Found t rows n r new still
+  pub found-next : (old new : List ℕ) (more still : Bool) → length old ≡ 256 → Found t rows n I old more → Round t rows n old new still → Found t rows n I new still
   found-next old new more still e f d = record {
     bits = d .grown .bits;
     first = λ x w l. d .grown .stay x (f .first x w l);
@@ -172,26 +177,63 @@ derives-on : (s : Scene) {i k j : ℕ} → Derives s i k → member j (pictureAt
 derives-on s (from m) n = over m (from n)
 derives-on s (over m d) n = over m (derives-on s d n)
 
-module _ (t rows : List ℕ) (s : Scene) (i : InputsAre t rows s) (r : ℕ) (h : r < length s) (marks : List ℕ) (f : Found t rows (length s) r marks false) where
-  -- all that the row is derived from is marked
-  derives-marked : (k : ℕ) {j : ℕ} → k < length s → ((x : ℕ) → IsInput t rows k x → x < 256 → Marked marks x) → Derives s k j → Marked marks j
-  derives-marked k {j} l w (from m) = w j (member-input t rows s i k l j m) (omega (arith, member-inside t rows s i k l j m, i .few))
-  derives-marked k {j} l w (over {k = o} m d) =
+module _ (t rows : List ℕ) (s : Scene) (i : InputsAre t rows s) (marks : List ℕ) where
+  -- all that a row is derived from is marked where its inputs are, and nothing is left to mark
+  derives-marked : (I : ℕ → Type 0) → Found t rows (length s) I marks false → (k : ℕ) {j : ℕ} → k < length s → ((x : ℕ) → IsInput t rows k x → x < 256 → Marked marks x) → Derives s k j → Marked marks j
+  derives-marked I f k {j} l w (from m) = w j (member-input t rows s i k l j m) (omega (arith, member-inside t rows s i k l j m, i .few))
+  derives-marked I f k {j} l w (over {k = o} m d) =
       let p = member-inside t rows s i k l o m in
-      derives-marked o p (λ x. f .closed refl o x p (w o (member-input t rows s i k l o m) (omega (arith, i .few)))) d
+      derives-marked I f o p (λ x. f .closed refl o x p (w o (member-input t rows s i k l o m) (omega (arith, i .few)))) d
 
-  -- nothing else is
-  marked-derives : (x : ℕ) → Marked marks x → Derives s r x
-  marked-derives x m =
-      reaches-derives s (length s) r x
-      (f .sound (λ y. reaches (length s) s r y)
-      (λ k y l q w. derives-reaches s (derives-on s (reaches-derives s (length s) r k q) (input-member t rows s i k l y w)))
-      (λ y w. derives-reaches s (from (input-member t rows s i r h y w))) x m)
+  module _ (r : ℕ) (h : r < length s) where
+    -- from the inputs of a row: nothing is marked that it is not derived from
+    module _ (f : Found t rows (length s) (IsInput t rows r) marks false) where
+      marked-derives : (x : ℕ) → Marked marks x → Derives s r x
+      marked-derives x m =
+          reaches-derives s (length s) r x
+          (f .sound (λ y. reaches (length s) s r y)
+          (λ k y l q w. derives-reaches s (derives-on s (reaches-derives s (length s) r k q) (input-member t rows s i k l y w)))
+          (λ y w. derives-reaches s (from (input-member t rows s i r h y w))) x m)
 
-  itself-marked : (b : Bool) → derivesItself s r ≡ b → eqb (getD marks r 0) 1 ≡ b
-  itself-marked true e = eq-eqb (getD marks r 0) 1 (derives-marked r h (f .first) (itself-derives s r e))
-  itself-marked false e = ne-eqb (getD marks r 0) 1 (λ m. untrue (sym e ∙ derives-itself s r (marked-derives r m)))
+      itself-marked : (b : Bool) → derivesItself s r ≡ b → eqb (getD marks r 0) 1 ≡ b
+      itself-marked true e = eq-eqb (getD marks r 0) 1 (derives-marked (IsInput t rows r) f r h (f .first) (itself-derives s r e))
+      itself-marked false e = ne-eqb (getD marks r 0) 1 (λ m. untrue (sym e ∙ derives-itself s r (marked-derives r m)))
+
+    -- from the row itself: what it needs is marked, and nothing else
+    module _ (f : Found t rows (length s) (λ y. r ≡ y) marks false) where
+      needed-marked : (c : ℕ) → c < length s → needs s r c ≡ true → Marked marks c
+      needed-marked c l e =
+          ⊎-elim (λ q. f .first c (eqb-true r c q) (omega (arith, i .few)))
+          (λ q. derives-marked (λ y. r ≡ y) f r h (λ x. f .closed refl r x h (f .first r refl (omega (arith, i .few)))) (reaches-derives s 16 r c q))
+          (or-either (eqb r c) (reaches 16 s r c) e)
+
+      module _ (low : depth s r ≤ 16) where
+        needs-derived : (c : ℕ) → Derives s r c → needs s r c ≡ true
+        needs-derived c d = either-second (eqb r c) (reaches 16 s r c) (shallow-reaches s low d)
+
+        needs-input : (k c : ℕ) → needs s r k ≡ true → member c (pictureAt s k .inputs) ≡ true → needs s r c ≡ true
+        needs-input k c e m =
+            needs-derived c
+            (⊎-elim (λ q. from (subst (λ (o : ℕ). member c (pictureAt s o .inputs) ≡ true) (sym (eqb-true r k q)) m)) (λ q. derives-on s (reaches-derives s 16 r k q) m) (or-either (eqb r k) (reaches 16 s r k) e))
+
+        marked-needed : (c : ℕ) → Marked marks c → needs s r c ≡ true
+        marked-needed =
+            f .sound (needs s r)
+            (λ k c l q w. needs-input k c q (input-member t rows s i k l c w))
+            (λ c e. rw (eq-eqb r c e))
+
+        needed-found-by : (c : ℕ) → c < length s → (b : Bool) → needs s r c ≡ b → eqb (getD marks c 0) 1 ≡ b
+        needed-found-by c l true e = eq-eqb (getD marks c 0) 1 (needed-marked c l e)
+        needed-found-by c l false e = ne-eqb (getD marks c 0) 1 (λ m. untrue (sym e ∙ marked-needed c m))
+
+-- the marks when nothing is left to mark, of the scene's rows
+found-last : (t rows : List ℕ) (n : ℕ) (I : ℕ → Type 0) (marks : List ℕ) (more : Bool) → Found t rows n I marks more → more ≡ false → (s : Scene) → length s ≡ n → Found t rows (length s) I marks false
+found-last t rows n I marks more f e s l = subst (λ (m : ℕ). Found t rows m I marks false) (sym l) (subst (Found t rows n I marks) e f)
 
 -- the mark of the row itself is the answer
-pub itself-found : (t rows : List ℕ) (n r : ℕ) (marks : List ℕ) (more : Bool) (w : ℕ) → Found t rows n r marks more → more ≡ false → w ≡ getD marks r 0 → (s : Scene) → length s ≡ n → InputsAre t rows s → r < n → eqb w 1 ≡ derivesItself s r
-itself-found t rows n r marks more w f e z s l i h = rw z (itself-marked t rows s i r (omega arith) marks (subst (λ (m : ℕ). Found t rows m r marks false) (sym l) (subst (Found t rows n r marks) e f)) (derivesItself s r) refl)
+pub itself-found : (t rows : List ℕ) (n r : ℕ) (marks : List ℕ) (more : Bool) (w : ℕ) → Found t rows n (IsInput t rows r) marks more → more ≡ false → w ≡ getD marks r 0 → (s : Scene) → length s ≡ n → InputsAre t rows s → r < n → eqb w 1 ≡ derivesItself s r
+itself-found t rows n r marks more w f e z s l i h = rw z (itself-marked t rows s i marks r (omega arith) (found-last t rows n (IsInput t rows r) marks more f e s l) (derivesItself s r) refl)
+
+-- the marks are on what the row needs
+pub needed-found : (t rows : List ℕ) (n r : ℕ) (marks : List ℕ) (more : Bool) → Found t rows n (λ y. r ≡ y) marks more → more ≡ false → (s : Scene) → length s ≡ n → InputsAre t rows s → r < n → depth s r ≤ 16 → (c : ℕ) → c < n → eqb (getD marks c 0) 1 ≡ needs s r c
+needed-found t rows n r marks more f e s l i h low c k = needed-found-by t rows s i marks r (omega arith) (found-last t rows n (λ y. r ≡ y) marks more f e s l) low c (omega arith) (needs s r c) refl

@@ -4,7 +4,9 @@ ghost use mathlib.Core.Path.{_≡_};
 ghost use Prim.Native.Nat.{ℕ, _≤_, _<_};
 ghost use lib.ListN.{length, getD};
 ghost use Rattle.pictures.specs.Scene.{Scene};
+ghost use lib.Dec.{eqb};
 ghost use Rattle.pictures.specs.Depth.{depth, derivesItself};
+ghost use Rattle.pictures.specs.Sources.{needs};
 ghost use Rattle.depths.specs.Inputs.{InputsAre};
 ghost use Rattle.depths.specs.Rounds.{at, nextDepth, Low, Deepened};
 ghost use Rattle.depths.specs.Marks.{Bits, IsInput, Spread, Round};
@@ -134,4 +136,18 @@ pub fn derives_itself(table: &[u32], rows: &[u32], n: usize, row: ItemRow) -> bo
         more = spread(table, rows, n, &mut marks);
     }
     table::word(&marks, r) == 1
+}
+
+// Marks on the rows that the picture in a row needs: itself, and what derivations lead to.
+pub fn needed_of(table: &[u32], rows: &[u32], n: usize, row: ItemRow) -> [u32; 256]
+    requires { ⌜ n ≤ 256 ⌝ }
+    ensures { λ marks. ⌜ ((s : Scene) → length s ≡ n → InputsAre (now (table .entry)) (now (rows .entry)) s → row .0 < n → depth s (row .0) ≤ 16 → (c : ℕ) → c < n → eqb (getD marks c 0) 1 ≡ needs s (row .0) c) ⌝ }
+{
+    let r = row.0;
+    let mut marks = [0u32; 256];
+    let mut more = mark(&mut marks, r);
+    while more {
+        more = spread(table, rows, n, &mut marks);
+    }
+    marks
 }

@@ -41,6 +41,13 @@ on-tile : (x tile n side : ℕ) → x < side → side ≤ tile * n → (x / tile
 on-tile x zero n side h k = let z = zero-mul n in absurd (omega arith)
 on-tile x (suc t) n side h k = let c = mul-comm (suc t) n in (div-lt-iff-lt-mul {k = suc t} {x = x} {y = n} (omega arith) .1 (omega arith), mod-lt x (omega arith))
 
+pub tile-in : (g : Grid) (tile : Size) (p : Point) → covered g tile ≡ true → Inside (size (g .wide) (g .high)) p → (p .y / tile .high * g .columns + p .x / tile .wide < g .rows * g .columns) × Inside tile (point (p .x % tile .wide) (p .y % tile .high))
+tile-in g tile p c i =
+    let k = is-covered g tile c in
+    let x = on-tile (p .x) (tile .wide) (g .columns) (g .wide) (i .in-x) (k .0) in
+    let y = on-tile (p .y) (tile .high) (g .rows) (g .high) (i .in-y) (k .1) in
+    (row-column _ _ _ _ (y .0) (x .0), record { in-x = x .1; in-y = y .1 })
+
 -- covers
 on-side : (o : Signed) (v side : ℕ) → onSide o v side ≡ true → alongSide o v < side
 on-side (plus o) v side e = ltb-true (v - o) side (and-both (leb o v) (ltb (v - o) side) e .1)
@@ -51,11 +58,9 @@ module _ (s : Scene) (q : Picture) where
   tile-beneath : (g : Grid) (tile : Size) (p : Point) → length (q .inputs) ≡ g .rows * g .columns → allSize s tile (q .inputs) ≡ true → covered g tile ≡ true → Inside (size (g .wide) (g .high)) p → Beneath s q (tileAt g (q .inputs) tile p)
   unfolding tileAt
   tile-beneath g tile p n a c i =
-      let k = is-covered g tile c in
-      let x = on-tile (p .x) (tile .wide) (g .columns) (g .wide) (i .in-x) (k .0) in
-      let y = on-tile (p .y) (tile .high) (g .rows) (g .high) (i .in-y) (k .1) in
-      let m = getD-member (q .inputs) (p .y / tile .high * g .columns + p .x / tile .wide) (rw n (row-column _ _ _ _ (y .0) (x .0))) in
-      (m, rw (all-size s tile (q .inputs) _ a m) (record { in-x = x .1; in-y = y .1 }))
+      let k = tile-in g tile p c i in
+      let m = getD-member (q .inputs) (p .y / tile .high * g .columns + p .x / tile .wide) (rw n (k .0)) in
+      (m, rw (all-size s tile (q .inputs) _ a m) (k .1))
 
   -- layerAt: the last input that covers the point, or what lies below
   layer-beneath : (os : List Offset) (is : List ℕ) (p : Point) (below : Source) → ((j : ℕ) → member j is ≡ true → member j (q .inputs) ≡ true) → Beneath s q below → Beneath s q (layerAt s os is p below)

@@ -46,7 +46,7 @@ module _ (total : ℕ) (head : List ℕ) (f : File) where
   unfolding pictureOf pick
   picture-at i = List·getD-map (λ (i : Item). pictureOf total head f i) (f .items) i noItem
 
-  opaque-at : (i : ℕ) → image (itemAt f i .type) ≡ false → pictureAt s i .recipe ≡ Opaque
+  pub opaque-at : (i : ℕ) → image (itemAt f i .type) ≡ false → pictureAt s i .recipe ≡ Opaque
   unfolding pictureOf
   opaque-at i e = ap (λ (p : Picture). p .recipe) (picture-at i ∙ pick-no _ _ e)
 

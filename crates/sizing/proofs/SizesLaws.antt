@@ -20,7 +20,8 @@ use Rattle.pictures.specs.GoodScene.{Shaped}
 use Rattle.rules.specs.Joined.{targetsOf, rowOf, itemAt}
 use Rattle.rules.specs.Derivations.{recipeOf, sceneOf}
 use Rattle.rules.proofs.SceneLaws.{inputs-at, recipe-ok, inputs-fed}
-use Rattle.views.specs.View.{SizesAre, recordWord, idOf}
+use Rattle.rules.specs.Places.{Places}
+use Rattle.views.specs.View.{TableOf, SizesAre, recordWord, idOf}
 use Rattle.views.proofs.LookupLaws.{row-listed}
 use Rattle.declared.proofs.NamedLaws.{left-from}
 use Rattle.derived.specs.Told.{toldBy, toldRecipe}
@@ -119,6 +120,21 @@ shaped-feeds Opaque is h = tt
 shaped-feeds (Tiles g) is h = h .1
 shaped-feeds (Layers o) is h = tt
 
+-- sceneOf: the inputs of the picture of an image item
+module _ (total : ℕ) (head : List ℕ) (f : File) (r : ℕ) (i : image (itemAt f r .type) ≡ true) where
+  pub scene-inputs : length (pictureAt (sceneOf total head f) r .inputs) ≡ length (targetsOf f (idOf f r))
+  scene-inputs = ap length (inputs-at total head f r i) ∙ length-map (targetsOf f (idOf f r)) (λ (t : ℕ). rowOf t (f .items))
+
+  pub scene-input : (j : ℕ) → j < length (targetsOf f (idOf f r)) → getD (pictureAt (sceneOf total head f) r .inputs) j 0 ≡ rowOf (getD (targetsOf f (idOf f r)) j 0) (f .items)
+  scene-input j l = ap (λ (is : List ℕ). getD is j 0) (inputs-at total head f r i) ∙ map-in (λ (t : ℕ). rowOf t (f .items)) (targetsOf f (idOf f r)) j l
+
+  -- k is the row of the input with number j, z the output size in that row
+  pub scene-input-size : {t : List ℕ} {pl : Places} → TableOf t head pl f → SizesAre t (sceneOf total head f) → (j : ℕ) → j < length (targetsOf f (idOf f r)) → (k : ℕ) → k ≡ rowOf (getD (targetsOf f (idOf f r)) j 0) (f .items)
+      → (z : Size) → ((s : Scene) → SizesAre t s → k < length s → z ≡ outputOf (pictureAt s k)) → z ≡ outputOf (pictureAt (sceneOf total head f) (getD (pictureAt (sceneOf total head f) r .inputs) j 0))
+  scene-input-size v w j l k e z o =
+      let m = row-listed (f .items) (getD (targetsOf f (idOf f r)) j 0) (v .sound .listed (idOf f r) j l) in
+      o (sceneOf total head f) w (omega (arith, scene-many total head f)) ∙ ap (λ (k : ℕ). outputOf (pictureAt (sceneOf total head f) k)) (e ∙ sym (scene-input j l))
+
 -- Drawn: the inputs of a picture, and the sizes that the table has of them
 module _ {t rows head : List ℕ} {total : ℕ} {f : File} (d : Drawn t rows head total f) (r : ℕ) (i : image (itemAt f r .type) ≡ true) where
   abbrev s : Scene
@@ -131,16 +147,10 @@ module _ {t rows head : List ℕ} {total : ℕ} {f : File} (d : Drawn t rows hea
   targets = targetsOf f (idOf f r)
 
   pub inputs-many : length (p .inputs) ≡ length targets
-  inputs-many = ap length (inputs-at total head f r i) ∙ length-map targets (λ (t : ℕ). rowOf t (f .items))
+  inputs-many = scene-inputs total head f r i
 
-  input-at : (j : ℕ) → j < length targets → getD (p .inputs) j 0 ≡ rowOf (getD targets j 0) (f .items)
-  input-at j l = ap (λ (is : List ℕ). getD is j 0) (inputs-at total head f r i) ∙ map-in (λ (t : ℕ). rowOf t (f .items)) targets j l
-
-  -- k is the row of the input with number j, z the output size in that row
   pub input-size : (j : ℕ) → j < length targets → (k : ℕ) → k ≡ rowOf (getD targets j 0) (f .items) → (z : Size) → ((s : Scene) → SizesAre t s → k < length s → z ≡ outputOf (pictureAt s k)) → z ≡ outputOf (pictureAt s (getD (p .inputs) j 0))
-  input-size j l k e z o =
-      let m = row-listed (f .items) (getD targets j 0) (d .view .sound .listed (idOf f r) j l) in
-      o s (d .sizes) (omega (arith, scene-many total head f)) ∙ ap (λ (k : ℕ). outputOf (pictureAt s k)) (e ∙ sym (input-at j l))
+  input-size = scene-input-size total head f r i (d .view) (d .sizes)
 
   -- the recipe is read as x
   module _ (h : r < length (f .items)) (x : RecipeRead) (e : x ≡ toldRecipe (recipeOf total head f (itemAt f r))) where

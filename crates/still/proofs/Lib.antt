@@ -1,2 +1,5 @@
 pub mod OpenedLaws
 pub mod QuestionLaws
+pub mod TraceLaws
+pub mod PropertyLaws
+pub mod SourcesLaws

@@ -29,8 +29,11 @@ use Rattle.records.specs.declared.FoundRow.the-variants.{At, Nothing}
 use Rattle.views.specs.View.{TableOf, SizesAre, recordWord}
 use Rattle.views.specs.Told.{toldRow}
 use Rattle.views.proofs.LookupLaws.{row-listed}
-use Rattle.views.proofs.ViewLaws.{words-view}
+use Rattle.rules.proofs.RuleLaws.{judged-each}
+use Rattle.rules.proofs.SceneLaws.{accepted-scene}
+use Rattle.views.proofs.ViewLaws.{accepted-both, words-view}
 use Rattle.views.proofs.FillLaws.{words-sized}
+use Rattle.tracing.specs.Told.{Shown}
 use Rattle.still.specs.Told.{toldOpened, toldVerdict, toldPictured, toldSized}
 use Rattle.still.specs.declared.Opened.the-variants as opens
 use Rattle.still.specs.declared.FileVerdict.the-variants as verdicts
@@ -39,7 +42,7 @@ use Rattle.still.specs.declared.Sized.the-variants as sizes
 use Rattle.still.proofs.OpenedLaws.{opened-is, after-is}
 
 -- toldRow
-abbrev Found : ℕ → List Item → FoundRow → Type 0
+abbrev pub Found : ℕ → List Item → FoundRow → Type 0
 Found id is (At r) = (member id (idsOf is) ≡ true) × (rowOf id is ≡ r .0)
 Found id is Nothing = member id (idsOf is) ≡ false
 
@@ -49,7 +52,7 @@ row-found id is = both (Found id is) (member id (idsOf is)) _ _ (λ m. (m, refl)
 
 -- pictured: x is what the lookup gives
 module _ (f : File) (id : ℕ) (x : FoundRow) (e : x ≡ toldRow id (f .items)) where
-  found : (y : FoundRow) → x ≡ y → Found id (f .items) y
+  pub found : (y : FoundRow) → x ≡ y → Found id (f .items) y
   found y q = subst (Found id (f .items)) (sym e ∙ q) (row-found id (f .items))
 
   pub picture-none : x ≡ Nothing → (y : Refusal) → y .number ≡ 21 → y .place ≡ id → pictures.Refused y ≡ toldPictured (pictured f id)
@@ -77,12 +80,12 @@ picture-listed f id r e =
     subst (λ (k : ℕ). k < length (f .items)) (ok-inj _ _ (y .2) ∙ ok-inj _ _ (z .2)) (row-listed (f .items) id (check-ok 21 id _ (y .0) (y .1)))
 
 -- toldPictured
-pictured-refused : (m : Answer ℕ) (y : Refusal) → toldPictured m ≡ pictures.Refused y → m ≡ refuse (y .number) (y .place)
+pub pictured-refused : (m : Answer ℕ) (y : Refusal) → toldPictured m ≡ pictures.Refused y → m ≡ refuse (y .number) (y .place)
 unfolding toldPictured
 pictured-refused (ok r) y e = let z : _≡_ {A = ℕ} 0 1 = cc in absurd (omega arith)
 pictured-refused (refuse n p) y e = let i : n ≡ y .number = cc in let j : p ≡ y .place = cc in rw (i, j)
 
-pictured-row : (m : Answer ℕ) (r : ItemRow) → toldPictured m ≡ pictures.At r → m ≡ ok (r .0)
+pub pictured-row : (m : Answer ℕ) (r : ItemRow) → toldPictured m ≡ pictures.At r → m ≡ ok (r .0)
 unfolding toldPictured
 pictured-row (ok k) r e = let i : k ≡ r .0 = cc in rw i
 pictured-row (refuse n p) r e = let z : _≡_ {A = ℕ} 0 1 = cc in absurd (omega arith)
@@ -102,7 +105,7 @@ module _ (s : Scene) (f : File) (id : ℕ) where
   size-row r e = picture-listed f id (r .0) (pictured-row (pictured f id) r e)
 
 -- toldOpened
-opened-refused : (m : Answer File) (y : Refusal) → toldOpened m ≡ opens.Refused y → m ≡ refuse (y .number) (y .place)
+pub opened-refused : (m : Answer File) (y : Refusal) → toldOpened m ≡ opens.Refused y → m ≡ refuse (y .number) (y .place)
 unfolding toldOpened
 opened-refused (ok f) y e = let z : _≡_ {A = ℕ} 0 1 = cc in absurd (omega arith)
 opened-refused (refuse n p) y e = let i : n ≡ y .number = cc in let j : p ≡ y .place = cc in rw (i, j)
@@ -149,3 +152,14 @@ module _ (total : ℕ) (head t : List ℕ) where
     pub asked-on : (id : ℕ) → toldSized (sizeIn (sceneOf total head file) file id) ≡ toldSized (size (length t) total head id)
     unfolding size _>>=_
     asked-on id = rw file-opened
+
+    pub file-shown : Shown u head total file
+    file-shown =
+        let j = judged-each total head file (accepted-both total head file file-accepted .1) in
+        record {
+          view = file-view;
+          sizes = file-sizes;
+          good = accepted-scene total head file file-accepted;
+          placed = j .by-13-14;
+          fed = j .by-17;
+        }

@@ -6,16 +6,23 @@ ghost use lib.ListN.{length};
 ghost use Rattle.contents.specs.File.{File};
 ghost use Rattle.rules.specs.Places.{Places};
 ghost use Rattle.rules.specs.Derivations.{sceneOf};
-ghost use Rattle.rules.specs.Questions.{after, sizeIn};
+ghost use Rattle.rules.specs.Questions.{after, sizeIn, traceIn, sourcesIn, listAfter, foundBy};
 ghost use Rattle.rules.specs.Questions as Q;
 ghost use Rattle.views.specs.View.{TableOf, SizesAre};
-ghost use Rattle.still.specs.Told.{toldOpened, toldVerdict, toldPictured, toldSized};
+ghost use Rattle.pictures.specs.Trace as Trace;
+ghost use Rattle.tracing.specs.Told.{Shown, toldEnd};
+ghost use Rattle.still.specs.Told.{endRow, toldOpened, toldVerdict, toldPictured, toldSized, toldTraced, toldListed, indexIn, indexOf, toldAsked, toldPart, toldBy, toldFault};
+ghost use Rattle.boxes.specs.Answer.{ok};
+ghost use Prim.Native.Nat.{_<_};
 use boxes::Refusal;
 use judging::Judged;
+use pictures::Point;
 use reading::FileRead;
 use records::FoundRow;
 use table::ItemId;
 use table::ItemRow;
+use table::PropertyIndex;
+use tracing::End;
 
 pub enum Opened {
     Accepted,
@@ -131,5 +138,195 @@ pub fn size(head: &[u8], total: u64, table: &mut [u32], id: ItemId) -> Sized
     match o {
         Opened::Refused(f) => Sized::Refused(f),
         Opened::Accepted => size_in(&*table, id),
+    }
+}
+
+pub enum Traced {
+    Pixel {
+        item: ItemId,
+        x: u32,
+        y: u32,
+        passed: u32,
+    },
+    Fill {
+        item: ItemId,
+        x: u32,
+        y: u32,
+        passed: u32,
+    },
+    Refused(Refusal),
+}
+
+// An end by the ID of its item.
+fn ended(table: &[u32], e: End) -> Traced
+    ensures { λ r. ⌜ ((head : List ℕ) (pl : Places) (f : File) → TableOf (now (table .entry)) head pl f → (x : Trace.Traced) → e ≡ toldEnd x → endRow (x .end) < length (f .items) → r ≡ toldTraced (ok (foundBy f (x .passed) (x .end)))) ⌝ }
+{
+    match e {
+        End::Pixel { row, at, passed } => Traced::Pixel {
+            item: views::id_of(table, row),
+            x: at.x,
+            y: at.y,
+            passed,
+        },
+        End::Fill { row, at, passed } => Traced::Fill {
+            item: views::id_of(table, row),
+            x: at.x,
+            y: at.y,
+            passed,
+        },
+    }
+}
+
+// The trace of an output pixel of an item of an accepted file's table: 21, 22, then 23.
+pub fn trace_in(head: &[u8], table: &[u32], id: ItemId, p: Point) -> Traced
+    ensures { λ r. ⌜ ((total : ℕ) (f : File) → Shown (now (table .entry)) (now (head .entry)) total f → r ≡ toldTraced (traceIn (sceneOf total (now (head .entry)) f) f (id .0) p)) ⌝ }
+{
+    let r = picture_row(table, id);
+    match r {
+        Pictured::Refused(f) => Traced::Refused(f),
+        Pictured::At(row) => {
+            let s = sizing::output_in(table, row);
+            if s.wide <= p.x {
+                return Traced::Refused(refusal(23, id));
+            }
+            if s.high <= p.y {
+                return Traced::Refused(refusal(23, id));
+            }
+            ended(table, tracing::trace_output(head, table, 16, 0, row, p))
+        }
+    }
+}
+
+// Pixel or fill, item ID, x and y there, and the items passed, for the output pixel p of an item.
+pub fn trace(head: &[u8], total: u64, table: &mut [u32], id: ItemId, p: Point) -> Traced
+    ensures { λ r. ⌜ r ≡ toldTraced (Q.trace (length (now (table .entry))) total (now (head .entry)) (id .0) p) ⌝ }
+    ensures { λ _. ⌜ now (table .exit) ≡ after total (now (head .entry)) (now (table .entry)) ⌝ }
+{
+    let o = open_file(head, total, table);
+    match o {
+        Opened::Refused(f) => Traced::Refused(f),
+        Opened::Accepted => trace_in(head, &*table, id, p),
+    }
+}
+
+pub enum Listed {
+    // How many IDs were written.
+    Is(usize),
+    Refused(Refusal),
+}
+
+// The sources of an item of an accepted file's table into a lent list: 21, 22, then 24.
+pub fn sources_in(table: &[u32], id: ItemId, list: &mut [u32]) -> Listed
+    ensures { λ r. ⌜ ((total : ℕ) (head : List ℕ) (f : File) → Shown (now (table .entry)) head total f → (r ≡ toldListed (sourcesIn (sceneOf total head f) f (id .0) (length (now (list .entry))))) × (now (list .exit) ≡ listAfter (sourcesIn (sceneOf total head f) f (id .0) (length (now (list .entry)))) (now (list .entry)))) ⌝ }
+{
+    let r = picture_row(table, id);
+    match r {
+        Pictured::Refused(f) => Listed::Refused(f),
+        Pictured::At(row) => {
+            let n = views::item_count(table);
+            if 256 < n {
+                return Listed::Is(0);
+            }
+            let rows = derived::resolve(table);
+            let marks = depths::needed_of(table, &rows, n, row);
+            let count = needed::count_sources(table, &marks, n);
+            if list.len() < count {
+                return Listed::Refused(refusal(24, id));
+            }
+            needed::put_sources(table, &marks, n, list);
+            Listed::Is(count)
+        }
+    }
+}
+
+// The IDs of all coded items that an item needs, each once, in table order, into a lent list.
+pub fn sources(head: &[u8], total: u64, table: &mut [u32], id: ItemId, list: &mut [u32]) -> Listed
+    ensures { λ r. ⌜ r ≡ toldListed (Q.sources (length (now (table .entry))) total (now (head .entry)) (id .0) (length (now (list .entry)))) ⌝ }
+    ensures { λ _. ⌜ now (list .exit) ≡ listAfter (Q.sources (length (now (table .entry))) total (now (head .entry)) (id .0) (length (now (list .entry)))) (now (list .entry)) ⌝ }
+    ensures { λ _. ⌜ now (table .exit) ≡ after total (now (head .entry)) (now (table .entry)) ⌝ }
+{
+    let o = open_file(head, total, table);
+    match o {
+        Opened::Refused(f) => Listed::Refused(f),
+        Opened::Accepted => sources_in(&*table, id, list),
+    }
+}
+
+pub enum PropertyAsked {
+    Is(PropertyIndex),
+    Refused(Refusal),
+}
+
+// Which property an item's association k, from 1, names: 21, then 25.
+pub fn property_index(table: &[u32], id: ItemId, k: u32) -> PropertyAsked
+    ensures { λ r. ⌜ ((head : List ℕ) (pl : Places) (f : File) → TableOf (now (table .entry)) head pl f → r ≡ toldAsked (indexIn f (id .0) k)) ⌝ }
+{
+    let found = views::row_named(table, id, ItemRow(0));
+    match found {
+        FoundRow::Nothing => PropertyAsked::Refused(refusal(21, id)),
+        FoundRow::At(row) => {
+            if k < 1 {
+                return PropertyAsked::Refused(refusal(25, id));
+            }
+            if views::record_word(table, row, 4) < k {
+                return PropertyAsked::Refused(refusal(25, id));
+            }
+            PropertyAsked::Is(views::index_of(views::association_of(table, row, (k - 1) as usize)))
+        }
+    }
+}
+
+// Which property is asked for, of any file.
+pub fn property_asked(
+    head: &[u8],
+    total: u64,
+    table: &mut [u32],
+    id: ItemId,
+    k: u32,
+) -> PropertyAsked
+    ensures { λ r. ⌜ r ≡ toldAsked (indexOf (length (now (table .entry))) total (now (head .entry)) (id .0) k) ⌝ }
+    ensures { λ _. ⌜ now (table .exit) ≡ after total (now (head .entry)) (now (table .entry)) ⌝ }
+{
+    let o = open_file(head, total, table);
+    match o {
+        Opened::Refused(f) => PropertyAsked::Refused(f),
+        Opened::Accepted => property_index(&*table, id, k),
+    }
+}
+
+// The number and the place of a refusal into a list of at least two, 0 and 0 where there is none.
+fn put_told(told: &mut [u64], number: u64, place: u64)
+    ensures { λ _. ⌜ now (told .exit) ≡ toldBy number place (now (told .entry)) ⌝ }
+{
+    if told.len() < 2 {
+        return;
+    }
+    told[0] = number;
+    told[1] = place;
+}
+
+// The property box of an item, header included, as a part of the caller's own head. The number and the place of a refusal are written to `told`, if it has room for two, and 0 and 0 where there is none.
+pub fn property<'a>(
+    head: &'a [u8],
+    total: u64,
+    table: &mut [u32],
+    id: ItemId,
+    k: u32,
+    told: &mut [u64],
+) -> &'a [u8]
+    ensures { λ r. ⌜ now r ≡ toldPart (Q.property (length (now (table .entry))) total (now (head .entry)) (id .0) k) ⌝ }
+    ensures { λ _. ⌜ now (told .exit) ≡ toldFault (now (told .entry)) (Q.property (length (now (table .entry))) total (now (head .entry)) (id .0) k) ⌝ }
+    ensures { λ _. ⌜ now (table .exit) ≡ after total (now (head .entry)) (now (table .entry)) ⌝ }
+{
+    let a = property_asked(head, total, table, id, k);
+    match a {
+        PropertyAsked::Refused(f) => {
+            put_told(told, f.number as u64, f.place);
+            &head[..0]
+        }
+        PropertyAsked::Is(index) => {
+            put_told(told, 0, 0);
+            views::property_box(head, &*table, index)
+        }
     }
 }

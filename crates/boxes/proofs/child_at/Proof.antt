@@ -1,3 +1,4 @@
+-- `boxes::child_at` meets its contract. Assumes nothing.
 use Rattle.boxes.proofs.HeaderLaws.{says, says-none, says-room, child-whole, child-bad, child-end, child-spare}
 use mathlib.Core.Path.{sym, _∙_}
 use lib.ListN.{length-drop}

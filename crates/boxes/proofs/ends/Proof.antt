@@ -1,3 +1,4 @@
+-- `boxes::ends` meets its contract. Assumes nothing.
 use borrow.Author.Tests.{le-leb, lt-leb}
 use Rattle.boxes.specs.Header.{ending}
 use Rattle.fields.specs.Choice.{pick}

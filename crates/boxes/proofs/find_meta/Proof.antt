@@ -1,3 +1,4 @@
+-- `boxes::find_meta` meets its contract. Assumes nothing.
 use Rattle.boxes.proofs.WalkLaws.{first-bad, first-short, first-past, first-thin, first-plain, first-branded, first-room}
 use mathlib.Core.Path.{sym, _∙_}
 use borrow.Author.Needs.{needs}

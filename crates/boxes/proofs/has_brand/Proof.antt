@@ -1,3 +1,4 @@
+-- `boxes::has_brand` meets its contract. Assumes nothing.
 use Rattle.boxes.proofs.BrandLaws.{wordsFrom, word-hit, word-miss, word-end}
 use Rattle.boxes.specs.Top.{brands}
 use Rattle.boxes.specs.Types.{mif1}

@@ -1,3 +1,4 @@
+-- `boxes::header_at` meets its contract. Assumes nothing.
 use native.Mathlib.Omega.{arith}
 use mathlib.Core.Path.{sym, _∙_}
 use Rattle.boxes.proofs.HeaderLaws.{header-none, header-half, header-short, header-long}

@@ -1,3 +1,4 @@
+-- `boxes::is_branded` meets its contract. Assumes nothing.
 use borrow.Author.Tests.{eq-eqb, ne-eqb}
 use borrow.Author.Needs.{needs}
 use Rattle.boxes.proofs.is_branded.Statement.{statement}

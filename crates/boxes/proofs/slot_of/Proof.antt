@@ -1,3 +1,4 @@
+-- `boxes::slot_of` meets its contract. Assumes nothing.
 use Rattle.boxes.specs.Family.{rank, slotOf}
 use Rattle.fields.specs.Choice.{pick}
 use borrow.Author.Tests.{ne-eqb}

@@ -1,3 +1,4 @@
+-- `boxes::top_box_at` meets its contract. Assumes nothing.
 use Rattle.boxes.proofs.HeaderLaws.{says, says-room, top-short, top-open, top-bad, top-closed}
 use mathlib.Core.Path.{sym, _∙_}
 use native.Mathlib.Omega.{arith}

@@ -1,3 +1,4 @@
+-- `boxes::walk_children` meets its contract. Assumes nothing.
 use Rattle.boxes.proofs.FamilyLaws.{So, begin, at-bad, at-spare, at-end, further, passed, twice, seated}
 use lib.ListN.{length}
 use mathlib.Core.Path.{sym, _∙_}

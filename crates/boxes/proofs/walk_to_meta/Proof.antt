@@ -1,3 +1,4 @@
+-- `boxes::walk_to_meta` meets its contract. Assumes nothing.
 use Rattle.boxes.proofs.WalkLaws.{shown, told-bad, told-short, told-past, told-found, told-stuck, walk-further}
 use Rattle.boxes.specs.Family.{toldMeta}
 use Rattle.boxes.specs.Top.{walk}

@@ -1,3 +1,4 @@
+-- `contents::read_full` meets its contract. Assumes nothing.
 use mathlib.Core.Path.{sym, ap}
 use Rattle.contents.specs.Full.{between}
 use Rattle.contents.specs.Told.{toldFull}

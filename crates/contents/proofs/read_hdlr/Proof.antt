@@ -1,3 +1,4 @@
+-- `contents::read_hdlr` meets its contract. Assumes nothing.
 use mathlib.Core.Path.{sym, ap, _∙_}
 use Rattle.contents.specs.Full.{upto}
 use Rattle.contents.specs.Told.{toldHdlr}

@@ -1,3 +1,4 @@
+-- `contents::read_pitm` meets its contract. Assumes nothing.
 use mathlib.Core.Path.{sym, ap, _∙_}
 use borrow.Author.Tests.{eq-eqb, ne-eqb}
 use Rattle.fields.proofs.FieldLaws.{pick-yes, pick-no}

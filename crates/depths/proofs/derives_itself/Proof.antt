@@ -6,13 +6,13 @@ use mathlib.Core.Path.{_≡_, refl, sym, _∙_}
 use lib.ListN.{length}
 use borrow.Author.Needs.{needs}
 use Rattle.fields.specs.Choice.{pick}
-use Rattle.depths.specs.Marks.{bare}
+use Rattle.depths.specs.Marks.{bare, IsInput}
 use Rattle.depths.proofs.MarkLaws.{Found, grown-less, zeros-bits, found-first, found-next, itself-found}
 use Rattle.depths.proofs.derives_itself.Statement.{statement}
 use Rattle.depths.proofs.derives_itself.Tie as tie
 
 abbrev Inv-loop : tie.InvT-loop
-Inv-loop table rows n r marks₀ more₀ marks more = (length marks ≡ 256) × Found table rows n r marks more
+Inv-loop table rows n r marks₀ more₀ marks more = (length marks ≡ 256) × Found table rows n (IsInput table rows r) marks more
 
 abbrev μ-loop : tie.MeasureT-loop
 μ-loop table rows n r marks₀ more₀ marks more = bare marks + pick more 1 0
@@ -27,7 +27,7 @@ spread-row-requires : tie.Need-spread-row-requires Inv-loop μ-loop
 spread-row-requires c κs = (omega arith, zeros-bits)
 
 loop-holds : tie.Need-loop-holds Inv-loop μ-loop
-loop-holds c = let a = c .before .before .before .before .before .before .args in let d = c .before .spread-row in (d .kept .1 .1 .0, found-first (a .table .now) (a .rows .now) (a .n) (a .row .0) (d .last .1 .1 .0) (d .result) (d .ensures))
+loop-holds c = let a = c .before .before .before .before .before .before .args in let d = c .before .spread-row in (d .kept .1 .1 .0, found-first (a .table .now) (a .rows .now) (a .n) (IsInput (a .table .now) (a .rows .now) (a .row .0)) (d .last .1 .1 .0) (d .result) (d .ensures))
 
 slice-aggregate-spread : tie.Need-slice-aggregate-spread Inv-loop μ-loop
 slice-aggregate-spread c = sym (c .before .before .loop .inv .0)
@@ -43,7 +43,7 @@ loop-again c =
     let a = c .before .before .before .before .before .before .before .before .before .before .before .args in
     let q = c .before .before .before .before .loop in
     let d = c .before .spread in
-    (d .kept .1 .1 .1 .0 ∙ q .inv .0, found-next (a .table .now) (a .rows .now) (a .n) (a .row .0) (q .marks) (d .last .1 .1 .1 .0) (q .more) (d .result) (q .inv .0) (q .inv .1) (d .ensures))
+    (d .kept .1 .1 .1 .0 ∙ q .inv .0, found-next (a .table .now) (a .rows .now) (a .n) (IsInput (a .table .now) (a .rows .now) (a .row .0)) (q .marks) (d .last .1 .1 .1 .0) (q .more) (d .result) (q .inv .0) (q .inv .1) (d .ensures))
 
 slice-aggregate-word : tie.Need-slice-aggregate-word Inv-loop μ-loop
 slice-aggregate-word c = sym (c .before .before .loop .inv .0)

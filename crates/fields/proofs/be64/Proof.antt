@@ -1,3 +1,4 @@
+-- `fields::be64` meets its contract. Assumes nothing.
 use Rattle.fields.proofs.FieldLaws.{be-join, be-below}
 use native.Mathlib.Omega.{arith}
 use borrow.Author.Needs.{needs}

@@ -1,3 +1,4 @@
+-- `fields::be8` meets its contract. Assumes nothing.
 use mathlib.Core.Path.{_∙_, sym}
 use Rattle.fields.proofs.FieldLaws.{be-one}
 use native.Mathlib.Omega.{arith}

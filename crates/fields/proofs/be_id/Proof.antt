@@ -1,3 +1,4 @@
+-- `fields::be_id` meets its contract. Assumes nothing.
 use mathlib.Core.Path.{_∙_, sym, ap}
 use Rattle.fields.specs.Field.{beAt}
 use Rattle.fields.proofs.FieldLaws.{four}

@@ -1,3 +1,4 @@
+-- `judging::deep_fault` meets its contract. Assumes nothing.
 use native.Mathlib.Omega.{arith}
 use Rattle.judging.proofs.SceneLaws.{deep-shallow, deep-over}
 use borrow.Author.Needs.{needs}

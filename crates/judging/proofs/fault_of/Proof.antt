@@ -1,3 +1,4 @@
+-- `judging::fault_of` meets its contract. Assumes nothing.
 use Rattle.judging.specs.Order.{ruleBy}
 use Rattle.judging.specs.declared.Rule.the-variants.{Placed, Declared, Derived, Itself, Deep, Sized}
 use Rattle.judging.proofs.OrderLaws.{by-rule}

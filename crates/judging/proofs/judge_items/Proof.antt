@@ -1,3 +1,4 @@
+-- `judging::judge_items` meets its contract. Assumes nothing.
 use mathlib.Core.Path.{sym, ap, _∙_}
 use Rattle.judging.specs.Order.{itemsJudged, toldJudged}
 use Rattle.judging.proofs.JudgedLaws.{told-off, told-on, told-good, placed-all}

@@ -1,3 +1,4 @@
+-- `pictures::along` meets its contract. Assumes nothing.
 use Rattle.fields.proofs.FieldLaws.{pick-yes, pick-no}
 use borrow.Author.Tests.{lt-ltb, le-ltb}
 use mathlib.Core.Path.{sym}

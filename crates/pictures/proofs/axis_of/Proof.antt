@@ -1,3 +1,4 @@
+-- `pictures::axis_of` meets its contract. Assumes nothing.
 use borrow.Author.Needs.{needs}
 use Rattle.pictures.proofs.axis_of.Statement.{statement}
 use Rattle.pictures.proofs.axis_of.Tie as tie

@@ -1,3 +1,4 @@
+-- `pictures::back_of` meets its contract. Assumes nothing.
 use Rattle.pictures.proofs.BackLaws.{undoes-stay, undoes-left, undoes-half, undoes-right, undoes-flip-x, undoes-flip-y, undoes-crop, undoes-misfit}
 use native.Mathlib.Omega.{arith}
 use borrow.Author.Needs.{needs}

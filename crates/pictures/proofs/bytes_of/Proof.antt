@@ -1,3 +1,4 @@
+-- `pictures::bytes_of` meets its contract. Assumes nothing.
 use mathlib.Core.Logic.{inl, inr}
 use Rattle.fields.proofs.FieldLaws.{pick-yes, pick-no}
 use borrow.Author.Tests.{eq-eqb, ne-eqb}

@@ -1,3 +1,4 @@
+-- `pictures::crop_of` meets its contract. Assumes nothing.
 use Rattle.pictures.proofs.TurnByLaws.{crop-off-x, crop-off-y, crop-on}
 use Rattle.pictures.specs.Clap.{cropOf}
 use mathlib.Core.Path.{sym, _∙_}

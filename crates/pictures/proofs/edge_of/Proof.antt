@@ -1,3 +1,4 @@
+-- `pictures::edge_of` meets its contract. Assumes nothing.
 use Rattle.pictures.proofs.EdgeLaws.{edge-no-width, edge-no-offset, edge-part, edge-wide, edge-placed, placed-right, placed-outside, placed-left, room-fits}
 use Rattle.pictures.specs.Told.{toldEdge}
 use Rattle.pictures.specs.Signed.{signed}

@@ -1,3 +1,4 @@
+-- `pictures::half_of` meets its contract. Assumes nothing.
 use Prim.Native.Nat.{ℕ, _^_}
 use Rattle.fields.proofs.FieldLaws.{four}
 use mathlib.Core.Path.{sym, ap}

@@ -1,3 +1,4 @@
+-- `pictures::halved_edge` meets its contract. Assumes nothing.
 use Rattle.pictures.specs.Told.{toldEdge}
 use Rattle.pictures.proofs.EdgeLaws.{halved-part, halved-outside, halved-within}
 use mathlib.Core.Path.{sym, ap}

@@ -1,3 +1,4 @@
+-- `pictures::mirror_of` meets its contract. Assumes nothing.
 use Rattle.pictures.specs.Decode.{mirror}
 use Rattle.fields.proofs.FieldLaws.{pick-yes, pick-no}
 use borrow.Author.Tests.{eq-eqb, ne-eqb}

@@ -1,3 +1,4 @@
+-- `pictures::read_grid` meets its contract. Assumes nothing.
 use Rattle.pictures.proofs.GridLaws.{four-at-most, grid-version, grid-length, grid-wrong, grid-right}
 use Rattle.pictures.specs.Recipe.{fieldBytes}
 use Rattle.fields.proofs.FieldLaws.{be-below}

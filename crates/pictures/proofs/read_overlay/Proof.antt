@@ -1,3 +1,4 @@
+-- `pictures::read_overlay` meets its contract. Assumes nothing.
 use Rattle.pictures.proofs.OverlayLaws.{iovl-version, iovl-length, overlay-wrong, overlay-right}
 use Rattle.pictures.proofs.GridLaws.{four-at-most}
 use Rattle.pictures.specs.Recipe.{fieldBytes}

@@ -1,3 +1,4 @@
+-- `pictures::side_of` meets its contract. Assumes nothing.
 use Rattle.pictures.proofs.SideLaws.{side-before, side-right, side-left}
 use mathlib.Core.Path.{sym, _∙_}
 use native.Mathlib.Omega.{arith}

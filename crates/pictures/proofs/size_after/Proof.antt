@@ -1,3 +1,4 @@
+-- `pictures::size_after` meets its contract. Assumes nothing.
 use Rattle.pictures.specs.Turn.{sizeAfter}
 use borrow.Author.Needs.{needs}
 use Rattle.pictures.proofs.size_after.Statement.{statement}

@@ -1,3 +1,4 @@
+-- `pictures::turn_of` meets its contract. Assumes nothing.
 use Rattle.pictures.specs.Decode.{rotation, mirror}
 use Rattle.pictures.proofs.TurnByLaws.{by-irot, by-imir, by-clap}
 use Prim.Native.Nat.{ℕ, _%_}

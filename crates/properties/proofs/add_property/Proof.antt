@@ -1,3 +1,4 @@
+-- `properties::add_property` meets its contract. Assumes nothing.
 use Rattle.properties.proofs.PropertyLaws.{added-many, added-bad, added-good}
 use native.Mathlib.Omega.{arith}
 use borrow.Author.Needs.{needs}

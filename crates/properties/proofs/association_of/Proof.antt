@@ -1,3 +1,4 @@
+-- `properties::association_of` meets its contract. Assumes nothing.
 use Rattle.properties.proofs.AssociationLaws.{index-high, index-low}
 use native.Mathlib.Nat.{mod-lt}
 use native.Mathlib.Omega.{arith}

@@ -1,3 +1,4 @@
+-- `properties::check_ispe` meets its contract. Assumes nothing.
 use Rattle.contents.proofs.FullLaws.{full-here, full-gone}
 use Rattle.contents.specs.Full.{upto}
 use Rattle.properties.proofs.CheckLaws.{ispe-gone, ispe-here}

@@ -1,3 +1,4 @@
+-- `properties::check_property` meets its contract. Assumes nothing.
 use Rattle.properties.proofs.CheckLaws.{held-ispe, held-clap, held-irot, held-imir, held-other}
 use Rattle.properties.specs.Steps.{toldChecked}
 use mathlib.Core.Path.{sym, ap, _∙_}

@@ -1,3 +1,4 @@
+-- `properties::has_length` meets its contract. Assumes nothing.
 use Rattle.properties.proofs.CheckLaws.{bytes-whole, bytes-other}
 use Rattle.properties.specs.Steps.{toldChecked}
 use mathlib.Core.Path.{sym, ap}

@@ -1,3 +1,4 @@
+-- `properties::level_with` meets its contract. Assumes nothing.
 use Rattle.properties.proofs.LevelLaws.{level-first, level-second, level-another}
 use Rattle.properties.proofs.level_with.Statement.{statement}
 use Rattle.properties.proofs.level_with.Tie as tie

@@ -1,3 +1,4 @@
+-- `properties::put_associations` meets its contract. Assumes nothing.
 use Prim.Native.Nat.{_-_}
 use Rattle.properties.proofs.AssociationLaws.{mark-small, ListSo, list-begin, list-length, list-kept, list-done, list-short, list-far, list-none, list-more}
 use native.Mathlib.Omega.{arith}

@@ -1,3 +1,4 @@
+-- `properties::put_list` meets its contract. Assumes nothing.
 use Rattle.properties.proofs.KeepLaws.{kept-self}
 use Rattle.properties.proofs.EntryLaws.{count-short, count-many, list-refused, list-put}
 use borrow.Author.Needs.{needs}

@@ -1,3 +1,4 @@
+-- `properties::put_named` meets its contract. Assumes nothing.
 use Rattle.properties.proofs.RowLaws.{found-row}
 use Rattle.properties.proofs.EntryLaws.{entry-short, entry-low, entry-unlisted, entry-refused, entry-put, id-width}
 use native.Mathlib.Omega.{arith}

@@ -1,3 +1,4 @@
+-- `properties::put_names` meets its contract. Assumes nothing.
 use Rattle.properties.proofs.NameLaws.{NamesSo, names-begin, names-refused, put-here, names-more, names-left, names-done}
 use Prim.Native.Nat.{_-_}
 use mathlib.Core.Path.{_∙_}

@@ -1,3 +1,4 @@
+-- `properties::put_property` meets its contract. Assumes nothing.
 use Rattle.properties.proofs.KeepLaws.{four-stores}
 use lib.ListN.{length-set}
 use native.Mathlib.Omega.{arith}

@@ -1,3 +1,4 @@
+-- `properties::put_span` meets its contract. Assumes nothing.
 use Rattle.properties.proofs.KeepLaws.{two-stores}
 use lib.ListN.{length-set}
 use native.Mathlib.Omega.{arith}

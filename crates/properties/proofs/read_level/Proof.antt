@@ -1,3 +1,4 @@
+-- `properties::read_level` meets its contract. Assumes nothing.
 use Rattle.properties.proofs.LevelLaws.{LevelSo, level-begin, level-further, level-more, level-bad, level-spare, level-end}
 use lib.ListN.{length}
 use Prim.Native.Nat.{_-_}

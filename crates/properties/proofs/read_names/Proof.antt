@@ -1,3 +1,4 @@
+-- `properties::read_names` meets its contract. Assumes nothing.
 use Rattle.properties.proofs.NameLaws.{read-short, read-many, read-gone, read-entries, word-width}
 use borrow.Author.Needs.{needs}
 use Rattle.properties.proofs.read_names.Statement.{statement}

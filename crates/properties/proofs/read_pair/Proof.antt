@@ -1,3 +1,4 @@
+-- `properties::read_pair` meets its contract. Assumes nothing.
 use Rattle.properties.proofs.PairLaws.{pair-properties, pair-few, pair-names, pair-shown}
 use lib.ListN.{take, drop}
 use Prim.Native.Nat.{_-_}

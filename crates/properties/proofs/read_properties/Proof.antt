@@ -1,3 +1,4 @@
+-- `properties::read_properties` meets its contract. Assumes nothing.
 use Rattle.properties.proofs.PropertyLaws.{PropertiesSo, properties-begin, properties-further, properties-held, properties-more, properties-bad, properties-spare, properties-end}
 use lib.ListN.{length}
 use Prim.Native.Nat.{_-_}

@@ -1,3 +1,4 @@
+-- `properties::read_shown` meets its contract. Assumes nothing.
 use Rattle.properties.proofs.ShownLaws.{shown-within, shown-both, shown-children, shown-second, shown-first, shown-count}
 use borrow.Author.Needs.{needs}
 use Rattle.properties.proofs.read_shown.Statement.{statement}

@@ -1,3 +1,4 @@
+-- `properties::word_at` meets its contract. Assumes nothing.
 use Rattle.properties.proofs.AssociationLaws.{word-left}
 use Rattle.fields.specs.Field.{beAt}
 use mathlib.Core.Path.{sym, ap, _∙_}

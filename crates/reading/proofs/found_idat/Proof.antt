@@ -1,3 +1,4 @@
+-- `reading::found_idat` meets its contract. Assumes nothing.
 use mathlib.Core.Path.{sym, ap, _∙_}
 use mathlib.Core.List.{List}
 use lib.ListN.{getD}

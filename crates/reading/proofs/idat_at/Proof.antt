@@ -1,3 +1,4 @@
+-- `reading::idat_at` meets its contract. Assumes nothing.
 use borrow.Author.Needs.{needs}
 use native.Mathlib.Omega.{arith}
 use Rattle.reading.proofs.SpotLaws.{no-idat-at, an-idat-at, idat-within}

@@ -1,3 +1,4 @@
+-- `reading::is_missing` meets its contract. Assumes nothing.
 use mathlib.Core.Logic.{inl, inr}
 use mathlib.Core.Path.{refl, sym, ap, _∙_}
 use mathlib.Core.List.{List}

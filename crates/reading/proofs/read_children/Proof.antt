@@ -1,3 +1,4 @@
+-- `reading::read_children` meets its contract. Assumes nothing.
 use mathlib.Core.Path.{sym, _∙_}
 use Rattle.reading.proofs.TableLaws.{kept-same}
 use Rattle.reading.proofs.TopStage.{walk-refused-after, missing-after, whole-standing, whole-after}

@@ -1,3 +1,4 @@
+-- `reading::read_file` meets its contract. Assumes nothing.
 use mathlib.Core.Path.{_∙_}
 use lib.ListN.{drop}
 use Rattle.reading.proofs.TopStage.{clear-is, clear-room, table-short, head-long, head-short, head-refused, head-read}

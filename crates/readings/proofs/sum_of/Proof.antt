@@ -1,3 +1,4 @@
+-- `readings::sum_of` is safe and ends. Assumes nothing.
 use Prim.Native.Nat.{_≤_, _<_, _-_}
 use lib.ListN.{length}
 use native.Mathlib.Omega.{arith}

@@ -1,3 +1,4 @@
+-- `references::is_second` meets its contract. Assumes nothing.
 use Prim.Native.Nat.{ℕ, _+_}
 use mathlib.Core.Path.{ap}
 use mathlib.Core.Bool.{not}

@@ -1,3 +1,4 @@
+-- `references::put_counted` meets its contract. Assumes nothing.
 use mathlib.Core.Path.{refl, sym, _∙_}
 use Rattle.fields.proofs.FieldLaws.{be-below}
 use Rattle.references.proofs.KeptLaws.{kept-same}

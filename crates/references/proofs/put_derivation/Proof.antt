@@ -1,3 +1,4 @@
+-- `references::put_derivation` meets its contract. Assumes nothing.
 use mathlib.Core.Path.{refl, sym, _∙_}
 use mathlib.Core.Bool.{true}
 use Rattle.references.proofs.KeptLaws.{kept-same}

@@ -1,3 +1,4 @@
+-- `references::put_reference` meets its contract. Assumes nothing.
 use mathlib.Core.Path.{refl, sym, _∙_, subst}
 use Rattle.records.specs.Rows.{FoundIs}
 use Rattle.references.proofs.IdLaws.{found-row}

@@ -1,3 +1,4 @@
+-- `references::put_span` meets its contract. Assumes nothing.
 use lib.ListN.{length-set}
 use Rattle.references.proofs.KeptLaws.{sets-two}
 use native.Mathlib.Omega.{arith}

@@ -1,3 +1,4 @@
+-- `references::put_targets` meets its contract. Assumes nothing.
 use Prim.Native.Nat.{_-_}
 use mathlib.Core.Path.{subst}
 use mathlib.Core.Logic.{⊎-elim}

@@ -1,3 +1,4 @@
+-- `references::read_references` meets its contract. Assumes nothing.
 use mathlib.Core.Path.{refl, sym, _∙_}
 use mathlib.Core.Logic.{inl, inr}
 use borrow.Author.Tests.{eq-eqb, ne-eqb}

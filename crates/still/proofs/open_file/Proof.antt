@@ -1,3 +1,4 @@
+-- `still::open_file` meets its contract. Assumes nothing.
 use native.Mathlib.Omega.{arith}
 use mathlib.Core.Path.{sym, _∙_}
 use lib.ListN.{drop}

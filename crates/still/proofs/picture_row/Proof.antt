@@ -1,3 +1,4 @@
+-- `still::picture_row` meets its contract. Assumes nothing.
 use native.Mathlib.Omega.{arith}
 use mathlib.Core.Path.{sym, ap, _∙_}
 use Rattle.boxes.specs.Types.{image}

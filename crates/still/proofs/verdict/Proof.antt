@@ -1,3 +1,4 @@
+-- `still::verdict` meets its contract. Assumes nothing.
 use native.Mathlib.Omega.{arith}
 use mathlib.Core.Path.{sym, _∙_}
 use Rattle.still.proofs.QuestionLaws.{verdict-off, opened-file, verdict-on}

@@ -1,0 +1,70 @@
+-- `needed::count_sources` meets its contract. The loop's invariant: the sources of the rows passed are counted. Assumes nothing.
+use Prim.Native.Nat.{ℕ, _-_, _≤_}
+use native.Mathlib.Omega.{arith}
+use mathlib.Core.Path.{_≡_, ap, _∙_}
+use mathlib.Core.Logic.{⊎-elim}
+use lib.ListN.{length}
+use borrow.Author.Needs.{needs}
+use Rattle.needed.specs.Marked.{markedOf}
+use Rattle.needed.proofs.MarkedLaws.{marked-few, count-none, count-take, count-pass}
+use Rattle.needed.proofs.count_sources.Statement.{statement}
+use Rattle.needed.proofs.count_sources.Tie as tie
+
+abbrev Inv-loop : tie.InvT-loop
+Inv-loop table marks n count₀ k₀ count k = (k ≤ n) × (count ≡ length (markedOf table marks k))
+
+abbrev μ-loop : tie.MeasureT-loop
+μ-loop table marks n count₀ k₀ count k = n - k
+
+loop-holds : tie.Need-loop-holds Inv-loop μ-loop
+loop-holds c = let a = c .before .before .args in (omega arith, count-none (a .table .now) (a .marks .now))
+
+row-at-requires : tie.Need-row-at-requires Inv-loop μ-loop
+row-at-requires c κs = search needs
+
+is-source-requires : tie.Need-is-source-requires Inv-loop μ-loop
+is-source-requires c κs = search needs
+
+add-count : tie.Need-add-count Inv-loop μ-loop
+add-count c = let a = c .before .before .before .before .before .before .before .args in let q = c .before .before .before .before .loop in omega (arith, marked-few (a .table .now) (a .marks .now) (q .k))
+
+add-k : tie.Need-add-k Inv-loop μ-loop
+add-k c = omega arith
+
+loop-less : tie.Need-loop-less Inv-loop μ-loop
+loop-less c = omega arith
+
+loop-again : tie.Need-loop-again Inv-loop μ-loop
+loop-again c =
+    let a = c .before .before .before .before .before .before .before .args in
+    let q = c .before .before .before .before .loop in
+    let r = c .before .before .row-at in
+    let s = c .before .is-source in (
+      omega arith,
+      ⊎-elim
+          (λ w. count-take (a .table .now) (a .marks .now) (q .k) (r .result .0) (s .result) (r .ensures) (omega arith) (s .ensures) (q .count) (c .if1 .count) (q .inv .1) (w .0 .taken) (w .1))
+          (λ w. count-pass (a .table .now) (a .marks .now) (q .k) (r .result .0) (s .result) (r .ensures) (omega arith) (s .ensures) (q .count) (c .if1 .count) (q .inv .1) (w .0 .left) (w .1))
+          (c .if1 .came),
+    )
+
+returns : tie.Need-returns Inv-loop μ-loop
+returns c =
+    let a = c .before .before .before .before .args in
+    let q = c .before .loop in
+    let e : q .k ≡ a .n = omega arith in
+    q .inv .1 ∙ ap (λ (k : ℕ). length (markedOf (a .table .now) (a .marks .now) k)) e
+
+pub count-sources-spec : {M : Type 1} → statement M
+count-sources-spec =
+    tie.close
+    (tie.spec
+    Inv-loop
+    μ-loop
+    loop-holds
+    row-at-requires
+    is-source-requires
+    add-count
+    add-k
+    loop-less
+    loop-again
+    returns)

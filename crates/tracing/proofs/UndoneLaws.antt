@@ -1,0 +1,70 @@
+-- Undoing an item's transforms, box by box. Assumes nothing.
+--   LeadsBack ts s p r    undoing ts from a pixel p of the output leads to r
+use Prim.Native.Nat.{ℕ, _+_, _≤_, _<_}
+use mathlib.Core.Path.{_≡_, refl, sym, ap, _∙_, subst}
+use mathlib.Core.List.{List, [], _∷_}
+use mathlib.Core.Bool.{true, false}
+use lib.ListN.{length, getD, drop, drop-of-length-le}
+use Rattle.fields.proofs.FieldLaws.{pick-yes, pick-no}
+use Rattle.boxes.specs.Box.{kindOf, bodyOf}
+use Rattle.contents.specs.File.{File}
+use Rattle.pictures.specs.declared.Size.{Size}
+use Rattle.pictures.specs.declared.Point.{Point}
+use Rattle.pictures.specs.declared.Turn.{Turn}
+use Rattle.pictures.specs.Turn.{sizeAfter, back, sizeThrough, undone, Inside, Fits, AllFit}
+use Rattle.pictures.specs.Decode.{transform, turnOf, turnsOf}
+use Rattle.pictures.specs.Told.{Sized, turnBy}
+use Rattle.pictures.proofs.TurnLaws.{inside-undone}
+use Rattle.rules.specs.Joined.{associationsOf, boxesOf, typesOf}
+use Rattle.rules.specs.Places.{Places}
+use Rattle.views.specs.View.{TableOf}
+use Rattle.declared.proofs.SizeLaws.{boxes-left, kind-said, turn-read}
+
+-- turnsOf: the box b at the front
+module _ (s : Size) (b : List ℕ) (bs : List (List ℕ)) where
+  turns-turn : transform (kindOf b) ≡ true → turnsOf s (b ∷ bs) ≡ turnOf s b ∷ turnsOf (sizeAfter (turnOf s b) s) bs
+  unfolding turnsOf
+  turns-turn e = pick-yes _ _ e
+
+  turns-other : transform (kindOf b) ≡ false → turnsOf s (b ∷ bs) ≡ turnsOf s bs
+  unfolding turnsOf
+  turns-other e = pick-no _ _ e
+
+-- undone
+abbrev pub LeadsBack : List Turn → Size → Point → Point → Type 0
+LeadsBack ts s p r = AllFit ts s → Inside (sizeThrough ts s) p → r ≡ undone ts s p
+
+back-none : (s : Size) (p : Point) → LeadsBack [] s p p
+unfolding undone
+back-none s p fit i = refl
+
+back-turn : (t : Turn) (ts : List Turn) (s : Size) (p q r : Point) → LeadsBack ts (sizeAfter t s) p q → (Fits t s → Inside (sizeAfter t s) q → r ≡ back t s q) → LeadsBack (t ∷ ts) s p r
+unfolding undone sizeThrough
+back-turn t ts s p q r h k fit i =
+    let e = h (fit .1) i in
+    k (fit .0) (subst (Inside (sizeAfter t s)) (sym e) (inside-undone ts (sizeAfter t s) p (fit .1) i)) ∙ ap (back t s) e
+
+-- past the last box
+pub undone-none : (bs : List (List ℕ)) (j : ℕ) → length bs ≤ j → (s : Size) (p : Point) → LeadsBack (turnsOf s (drop j bs)) s p p
+unfolding turnsOf
+undone-none bs j h s p = subst (λ (l : List (List ℕ)). LeadsBack (turnsOf s l) s p p) (sym (drop-of-length-le bs h)) (back-none s p)
+
+-- from the box with number j on, whose type is k
+module _ {t head : List ℕ} {pl : Places} {f : File} (v : TableOf t head pl f) (id j : ℕ) (l : j < length (associationsOf f id))
+    (k : ℕ) (e : k ≡ getD (typesOf f id) j 0) (s : Size) (p r : Point) where
+  pub undone-skip : transform k ≡ false → LeadsBack (turnsOf s (drop (j + 1) (boxesOf f id))) s p r → LeadsBack (turnsOf s (drop j (boxesOf f id))) s p r
+  undone-skip q h =
+      subst (λ (ts : List Turn). LeadsBack ts s p r)
+      (sym (ap (turnsOf s) (boxes-left v id j l k e) ∙ turns-other s _ _ (ap transform (sym (kind-said v id j l k e)) ∙ q))) h
+
+  -- b is the box, and c its content
+  pub undone-read : (b c : List ℕ) → b ≡ getD (boxesOf f id) j [] → c ≡ bodyOf b → (u : Turn) → transform k ≡ true → (Sized k c → u ≡ turnBy s k c) → (z : Size) → z ≡ sizeAfter u s
+      → (o : Point) → LeadsBack (turnsOf z (drop (j + 1) (boxesOf f id))) z p o → (Fits u s → Inside (sizeAfter u s) o → r ≡ back u s o) → LeadsBack (turnsOf s (drop j (boxesOf f id))) s p r
+  undone-read b c eb ec u q g z ez o h w =
+      let x = turn-read v id j l k e b c eb ec s u q g in
+      let y : turnsOf s (drop j (boxesOf f id)) ≡ u ∷ turnsOf (sizeAfter u s) (drop (j + 1) (boxesOf f id)) =
+      ap (turnsOf s) (boxes-left v id j l k e)
+      ∙ turns-turn s _ _ (ap transform (sym (kind-said v id j l k e)) ∙ q)
+      ∙ ap (λ (t : Turn). t ∷ turnsOf (sizeAfter t s) (drop (j + 1) (boxesOf f id))) (sym x) in
+      subst (λ (ts : List Turn). LeadsBack ts s p r) (sym y)
+      (back-turn u (turnsOf (sizeAfter u s) (drop (j + 1) (boxesOf f id))) s p o r (subst (λ (z : Size). LeadsBack (turnsOf z (drop (j + 1) (boxesOf f id))) z p o) ez h) w)

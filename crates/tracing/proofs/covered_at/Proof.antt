@@ -1,0 +1,61 @@
+-- `tracing::covered_at` meets its contract: a point lies on an input where both sides hold it. Assumes nothing.
+use mathlib.Core.Path.{sym, _∙_}
+use borrow.Author.Needs.{needs}
+use Rattle.tracing.proofs.LayerLaws.{side-read, covered-off-x, covered-off-y, covered-on}
+use Rattle.tracing.proofs.covered_at.Statement.{statement}
+use Rattle.tracing.proofs.covered_at.Tie as tie
+
+be-id-requires : tie.Need-be-id-requires
+be-id-requires c κs = search needs
+
+side-of-requires : tie.Need-side-of-requires
+side-of-requires c κs = search needs
+
+add-be-id : tie.Need-add-be-id
+add-be-id c = search needs
+
+be-id-requires-2 : tie.Need-be-id-requires-2
+be-id-requires-2 c κs = search needs
+
+side-of-requires-2 : tie.Need-side-of-requires-2
+side-of-requires-2 c κs = search needs
+
+enum-told : tie.Need-enum-told
+enum-told c = search needs
+
+enum-known-x : tie.Need-enum-known-x
+enum-known-x c = search needs
+
+enum-told-2 : tie.Need-enum-told-2
+enum-told-2 c = search needs
+
+enum-known-y : tie.Need-enum-known-y
+enum-known-y c = search needs
+
+returns : tie.Need-returns
+returns c = let e = c .before .before .before .before .before .before in covered-off-x _ _ _ (sym (c .enum-told .given .1) ∙ side-read _ _ _ _ _ _ _ (e .shared-slice-known .given) (e .before .pre .0) (c .before .before .before .before .before .be-id .ensures) (c .before .before .before .before .side-of .ensures))
+
+returns-2 : tie.Need-returns-2
+returns-2 c = let e = c .before .before .before .before .before .before .before .before .before in covered-off-y _ _ _ (sym (c .enum-told2 .given .1) ∙ side-read _ _ _ _ _ _ _ (e .shared-slice-known .given) (e .before .pre .0) (c .before .before .before .before .before .before .be-id2 .ensures) (c .before .before .before .before .before .side-of2 .ensures))
+
+returns-3 : tie.Need-returns-3
+returns-3 c =
+    let e = c .before .before .before .before .before .before .before .before .before .before in
+    covered-on _ _ _ _ _ (sym (c .before .before .before .before .x .given .1) ∙ side-read _ _ _ _ _ _ _ (e .shared-slice-known .given) (e .before .pre .0) (c .before .before .before .before .before .before .before .before .before .be-id .ensures) (c .before .before .before .before .before .before .before .before .side-of .ensures)) (sym (c .before .y .given .1) ∙ side-read _ _ _ _ _ _ _ (e .shared-slice-known .given) (e .before .pre .0) (c .before .before .before .before .before .before .before .be-id2 .ensures) (c .before .before .before .before .before .before .side-of2 .ensures))
+
+pub covered-at-spec : {M : Type 1} → statement M
+covered-at-spec =
+    tie.close
+    (tie.spec
+    be-id-requires
+    side-of-requires
+    add-be-id
+    be-id-requires-2
+    side-of-requires-2
+    enum-told
+    enum-known-x
+    enum-told-2
+    enum-known-y
+    returns
+    returns-2
+    returns-3)

@@ -1,0 +1,38 @@
+-- `tracing::gridded_at` meets its contract: the body of a `grid` that keeps 17 is read. Assumes nothing.
+use mathlib.Core.Path.{refl}
+use Rattle.tracing.proofs.TileLaws.{grid-there, grid-tiles}
+use borrow.Author.Needs.{needs}
+use Rattle.tracing.proofs.gridded_at.Statement.{statement}
+use Rattle.tracing.proofs.gridded_at.Tie as tie
+
+body-of-requires : tie.Need-body-of-requires
+body-of-requires c κs = search needs
+
+read-grid-requires : tie.Need-read-grid-requires
+read-grid-requires c κs = search needs
+
+enum-told : tie.Need-enum-told
+enum-told c = search needs
+
+enum-known-g : tie.Need-enum-known-g
+enum-known-g c = search needs
+
+tiled-at-requires : tie.Need-tiled-at-requires
+tiled-at-requires c κs = search needs
+
+returns : tie.Need-returns
+returns c =
+    λ total f d h q i.
+    let r = c .before .before .before .before .before .before .args .row .0 in
+    absurd (grid-there d r h q _ (c .before .before .before .body-of .ensures total _ f (d .view) h (d .placed r h)) _ (c .before .before .read-grid .ensures) (c .enum-told .given .1))
+
+returns-2 : tie.Need-returns-2
+returns-2 c =
+    λ total f d h q i.
+    let a = c .before .before .before .before .before .before .before .before .args in
+    let r = a .row .0 in
+    let e = grid-tiles d r h q _ (c .before .before .before .before .before .body-of .ensures total _ f (d .view) h (d .placed r h)) _ (c .before .before .before .before .read-grid .ensures) _ _ _ _ (c .before .before .g .given .1) in
+    c .tiled-at .ensures total _ f d h _ e refl i
+
+pub gridded-at-spec : {M : Type 1} → statement M
+gridded-at-spec = tie.close (tie.spec body-of-requires read-grid-requires enum-told enum-known-g tiled-at-requires returns returns-2)

@@ -1,0 +1,33 @@
+-- `tracing::input_row` meets its contract: each target is listed. Assumes nothing.
+use Rattle.views.specs.View.{idOf}
+use Rattle.tracing.proofs.InputLaws.{target-found, target-there}
+use borrow.Author.Needs.{needs}
+use Rattle.tracing.proofs.input_row.Statement.{statement}
+use Rattle.tracing.proofs.input_row.Tie as tie
+
+target-of-requires : tie.Need-target-of-requires
+target-of-requires c κs = search needs
+
+row-named-requires : tie.Need-row-named-requires
+row-named-requires c κs = search needs
+
+enum-known-found : tie.Need-enum-known-found
+enum-known-found c = search needs
+
+enum-told : tie.Need-enum-told
+enum-told c = search needs
+
+returns : tie.Need-returns
+returns c =
+    λ head pl f v h l.
+    let a = c .before .before .before .before .before .before .args in
+    target-found v (idOf f (a .row .0)) (a .j) l _ (c .before .before .before .before .target-of .ensures head pl f v h l) _ (c .before .before .before .row-named .ensures head pl f v) _ (c .before .found .given .1)
+
+returns-2 : tie.Need-returns-2
+returns-2 c =
+    λ head pl f v h l.
+    let a = c .before .before .before .before .before .args in
+    absurd (target-there v (idOf f (a .row .0)) (a .j) l _ (c .before .before .before .target-of .ensures head pl f v h l) _ (c .before .before .row-named .ensures head pl f v) (c .enum-told .given .1))
+
+pub input-row-spec : {M : Type 1} → statement M
+input-row-spec = tie.close (tie.spec target-of-requires row-named-requires enum-known-found enum-told returns returns-2)

@@ -1,0 +1,46 @@
+-- `tracing::source_of` meets its contract, by the item's type; an image item of no other type is coded. Assumes nothing.
+use mathlib.Core.Path.{sym, _∙_}
+use borrow.Author.Needs.{needs}
+use Rattle.derived.proofs.InputLaws.{type-read}
+use Rattle.tracing.proofs.TraceLaws.{coded-source}
+use Rattle.tracing.proofs.source_of.Statement.{statement}
+use Rattle.tracing.proofs.source_of.Tie as tie
+
+type-of-requires : tie.Need-type-of-requires
+type-of-requires c κs = search needs
+
+copied-at-requires : tie.Need-copied-at-requires
+copied-at-requires c κs = search needs
+
+gridded-at-requires : tie.Need-gridded-at-requires
+gridded-at-requires c κs = search needs
+
+layered-at-requires : tie.Need-layered-at-requires
+layered-at-requires c κs = search needs
+
+returns : tie.Need-returns
+returns c = λ total f v h i l. c .copied-at .ensures total _ f v h (sym (type-read (v .view) (c .before .before .before .before .before .args .row .0) h _ (c .before .before .type-of .ensures)) ∙ c .before .match .keys1)
+
+returns-2 : tie.Need-returns-2
+returns-2 c = λ total f v h i l. c .gridded-at .ensures total f v h (sym (type-read (v .view) (c .before .before .before .before .before .args .row .0) h _ (c .before .before .type-of .ensures)) ∙ c .before .match .keys2) l
+
+returns-3 : tie.Need-returns-3
+returns-3 c = λ total f v h i l. c .layered-at .ensures total f v h (sym (type-read (v .view) (c .before .before .before .before .before .args .row .0) h _ (c .before .before .type-of .ensures)) ∙ c .before .match .keys3)
+
+returns-4 : tie.Need-returns-4
+returns-4 c = λ total f v h i l.
+    let e = type-read (v .view) (c .before .before .before .before .args .row .0) h _ (c .before .type-of .ensures) in
+    coded-source v (c .before .before .before .before .args .row .0) h i (λ q. c .match .rest .0 .0 .1 (e ∙ q)) (λ q. c .match .rest .0 .1 (e ∙ q)) (λ q. c .match .rest .1 (e ∙ q)) _
+
+pub source-of-spec : {M : Type 1} → statement M
+source-of-spec =
+    tie.close
+    (tie.spec
+    type-of-requires
+    copied-at-requires
+    gridded-at-requires
+    layered-at-requires
+    returns
+    returns-2
+    returns-3
+    returns-4)
