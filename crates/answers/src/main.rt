@@ -12,18 +12,6 @@ use still::Sized;
 use still::Traced;
 use table::ItemId;
 
-fn read_number() -> u32 {
-    let mut b = [0u8; 4];
-    io::read_full(0, &mut b);
-    fields::be32(&b, 0)
-}
-
-fn read_long() -> u64 {
-    let mut b = [0u8; 8];
-    io::read_full(0, &mut b);
-    fields::be64(&b, 0)
-}
-
 fn print_more(n: u64) {
     io::write_all(1, b" ");
     io::print_decimal(1, n);
@@ -155,10 +143,10 @@ fn print_sources(head: &[u8], total: u64, table: &mut [u32], id: u32, room: u32)
     }
 }
 
-fn wide(x: u8) -> u64
+fn wide(x: u8) -> u32
     ensures { λ r. ⌜ r ≡ x ⌝ }
 {
-    x as u64
+    x as u32
 }
 
 // A sum over bytes that changes with each of them and with their order.
@@ -168,7 +156,7 @@ fn sum_of(b: &[u8]) -> u64
     let mut sum: u64 = 0;
     let mut i: usize = 0;
     while i < b.len() {
-        sum = (sum * 31 + wide(b[i])) % 4294967296;
+        sum = heads::added(sum, wide(b[i]));
         i += 1;
     }
     sum
@@ -199,10 +187,10 @@ fn print_property(head: &[u8], total: u64, table: &mut [u32], id: u32, k: u32) {
 }
 
 fn answer(name: &[u8], head: &[u8], total: u64, table: &mut [u32]) {
-    let kind = read_number();
-    let id = read_number();
-    let x = read_number();
-    let y = read_number();
+    let kind = heads::read_number();
+    let id = heads::read_number();
+    let x = heads::read_number();
+    let y = heads::read_number();
     io::write_all(1, name);
     io::write_all(1, b"\t");
     io::print_decimal(1, total);
@@ -218,7 +206,7 @@ fn answer(name: &[u8], head: &[u8], total: u64, table: &mut [u32]) {
 }
 
 fn answer_all(name: &[u8], head: &[u8], total: u64, table: &mut [u32]) {
-    let n = read_number();
+    let n = heads::read_number();
     let mut i: u32 = 0;
     while i < n {
         answer(name, head, total, table);
@@ -226,49 +214,21 @@ fn answer_all(name: &[u8], head: &[u8], total: u64, table: &mut [u32]) {
     }
 }
 
-// Room for a name and for a head. The `ensures` gives the length, which lending a part of it needs.
-fn name_room() -> [u8; 256]
-    ensures { λ r. ⌜ 256 ≡ length r ⌝ }
-{
-    [0; 256]
-}
-
-fn head_room() -> [u8; 70000]
-    ensures { λ r. ⌜ 70000 ≡ length r ⌝ }
-{
-    [0; 70000]
-}
-
-// A table in which something is left from before.
-fn used_table() -> [u32; 11300]
-    ensures { λ r. ⌜ 11300 ≡ length r ⌝ }
-{
-    [7; 11300]
-}
-
-// The head of the next file, under its name.
-fn next_head(name: &[u8], table: &mut [u32]) {
-    let total = read_long();
-    let n = read_number() as usize;
-    let mut head = head_room();
-    if n <= 70000 {
-        io::read_full(0, &mut head[..n]);
-        answer_all(name, &head[..n], total, table);
-    }
-}
-
+// The next file: its name, its head and the questions about it.
 fn next_file(table: &mut [u32]) {
-    let n = read_number() as usize;
-    let mut name = name_room();
-    if n <= 256 {
-        io::read_full(0, &mut name[..n]);
-        next_head(&name[..n], table);
-    }
+    let letters = heads::read_number();
+    let mut name = heads::name_room();
+    let n = heads::read_bytes(&mut name, letters);
+    let total = heads::read_long();
+    let bytes = heads::read_number();
+    let mut head = heads::head_room();
+    let m = heads::read_bytes(&mut head, bytes);
+    answer_all(&name[..n], &head[..m], total, table);
 }
 
 fn main() {
-    let count = read_number();
-    let mut table = used_table();
+    let count = heads::read_number();
+    let mut table = heads::used_table();
     let mut i: u32 = 0;
     while i < count {
         next_file(&mut table);

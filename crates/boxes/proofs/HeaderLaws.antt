@@ -10,6 +10,7 @@ use borrow.Author.Tests.{le-ltb, lt-ltb, le-leb, eq-eqb, ne-eqb, ltb-true, ltb-f
 use Rattle.fields.specs.Choice.{pick}
 use Rattle.fields.specs.Field.{beAt}
 use Rattle.fields.proofs.FieldLaws.{be-from, be-drop}
+use Rattle.fields.proofs.TestLaws.{and-false}
 use Rattle.boxes.specs.Box.{headOf, sizeOf, kindOf, starts}
 use Rattle.boxes.specs.Top.{past, good, fit, look}
 use Rattle.boxes.specs.Header.{headerOf, childAt, ending, seen, topBoxAt}
@@ -48,11 +49,6 @@ module _ (s : List ℕ) (at : ℕ) where
 
     pub header-long : 16 ≤ length s - at → header.Whole (beAt s (at + 4) 4) 16 (beAt s (at + 8) 8) ≡ headerOf (drop at s)
     header-long h = sym (whole (omega (arith, long)) ∙ rw (long .0, long .1, be-drop s at 4 4, be-drop s at 8 8))
-
-pub and-false : (t u : Bool) → (t ≡ true → u ≡ true → ⊥) → (t && u) ≡ false
-and-false true true h = absurd (h refl refl)
-and-false true false h = refl
-and-false false u h = refl
 
 -- what a header says
 pub record Says (t : List ℕ) (kind head size : ℕ) : Type 0 where

@@ -4,10 +4,10 @@ use native.Mathlib.Omega.{arith}
 use mathlib.Core.Path.{_≡_, refl, sym, _∙_, subst}
 use mathlib.Core.List.{List, [], _∷_}
 use lib.ListN.{length}
-use Rattle.boxes.specs.Answer.{Answer, ok, _>>=_}
+use Rattle.boxes.specs.Answer.{ok}
 use Rattle.boxes.specs.Types.{hdlr, pitm, iinf, iloc, iprp, iref, idat, family, known}
 use Rattle.boxes.specs.Children.{ofKind, Few}
-use Rattle.boxes.proofs.AnswerLaws.{bind-ok, ok-bind, then-ok, ok-then, ok-inj}
+use Rattle.boxes.proofs.AnswerLaws.{ok-bind, then-ok, ok-then, ok-inj, with-ok}
 use Rattle.boxes.proofs.ChildLaws.{children-sound, children-complete, first-sound, first-complete}
 use Rattle.forms.specs.Form.{whole-sound, whole-complete, front-sound, front-complete}
 use Rattle.forms.proofs.LeadLaws.{lead-sound, lead-complete}
@@ -22,10 +22,6 @@ use Rattle.fields.proofs.TestLaws.{member-all}
 use Rattle.contents.proofs.ItemLaws.{items-sound, items-complete}
 use Rattle.contents.proofs.PropertyLaws.{shown-sound, shown-complete}
 use Rattle.contents.proofs.ReferenceLaws.{referred-sound, referred-complete}
-
--- an answer that is a value, from its parts
-with-ok : {A B C : Type 0} (m : Answer A) (f : A → Answer B) (b : B) → (m >>= f) ≡ ok b → ((a : A) → m ≡ ok a → f a ≡ ok b → C) → C
-with-ok m f b e k = let x = bind-ok m f b e in k (x .0) (x .1) (x .2)
 
 -- contentsOf
 pub contents-sound : (p at : ℕ) (s : List ℕ) (f : File) → contentsOf p at s ≡ ok f → Children s f

@@ -2,20 +2,20 @@
 use Prim.Native.Nat.{ℕ, _+_, _≤_, _<_}
 use native.Mathlib.Omega.{arith}
 use mathlib.Core.Path.{_≡_, refl, sym, ap, _∙_}
-use mathlib.Core.List.{List, _++_}
-use mathlib.Core.Bool.{Bool, true, false, _&&_}
+use mathlib.Core.List.{List}
+use mathlib.Core.Bool.{Bool, true, false}
 use mathlib.Core.Logic.{_⊎_, inl, inr, ⊎-elim}
 use native.Mathlib.Decide.{decLe}
 use lib.ListN.{length, drop}
 use lib.Dec.{leb, eqb}
 use borrow.Author.Tests.{eq-eqb, ne-eqb, le-leb, lt-leb}
-use Rattle.fields.specs.Choice.{pick}
 use Rattle.fields.specs.Field.{beAt}
 use Rattle.boxes.specs.Answer.{Answer, ok, refuse}
 use Rattle.boxes.specs.Types.{pict}
-use Rattle.forms.specs.Form.{Form, Got, got, give, demand, field, whole, front, _>>=_, _>>_}
+use Rattle.forms.specs.Form.{Got, got, give, demand, field, whole, front, _>>=_, _>>_}
 use Rattle.boxes.specs.declared.Refusal.{Refusal}
 use Rattle.forms.proofs.StepLaws.{reads, over, whole-reads, front-reads, read-reads, reads-got, reads-refused, reads-bind, reads-field, reads-short, reads-yes, reads-no, reads-give, over-end, over-left}
+use Rattle.fields.proofs.TestLaws.{and-none}
 use Rattle.contents.specs.Full.{Full, full, between, upto, idBytes}
 use Rattle.contents.specs.Hdlr.{hdlr-form}
 use Rattle.contents.specs.Pitm.{pitm-form}
@@ -27,11 +27,7 @@ pub between-low : (a b v w : ℕ) → v ≡ w → v < a → between a b w ≡ fa
 between-low a b v w e h = rw (lt-leb a w (omega arith))
 
 pub between-high : (a b v w : ℕ) → v ≡ w → b < v → between a b w ≡ false
-between-high a b v w e h = rw (lt-leb w b (omega arith)) (go (leb a w))
-  where
-    go : (c : Bool) → (c && false) ≡ false
-    go true = refl
-    go false = refl
+between-high a b v w e h = rw (lt-leb w b (omega arith)) (and-none (leb a w) false refl)
 
 pub between-in : (a b v w : ℕ) → v ≡ w → a ≤ v → v ≤ b → between a b w ≡ true
 between-in a b v w e h k = rw (le-leb a w (omega arith), le-leb w b (omega arith))

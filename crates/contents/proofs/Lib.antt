@@ -4,3 +4,5 @@ pub mod PropertyLaws
 pub mod ReferenceLaws
 pub mod FileLaws
 pub mod ReadLaws
+pub mod SumLaws
+pub mod LimitLaws

@@ -121,7 +121,7 @@ pair-sound p (a ∷ b ∷ []) two e =
     subst (Paired (a ∷ b ∷ [])) (ok-inj _ two (x .2)) (record { pair = refl; first-kind = eqb-true _ _ (k .0); second-kind = eqb-true _ _ (k .1) })
 pair-sound p (a ∷ b ∷ c ∷ cs) two e = let z : _≡_ {A = ℕ} 0 1 = cc in absurd (omega arith)
 
-pair-complete : (p : ℕ) (a b : List ℕ) → kindOf a ≡ ipco → kindOf b ≡ ipma → pairOf p (a ∷ b ∷ []) ≡ ok (record { first = a; second = b })
+pub pair-complete : (p : ℕ) (a b : List ℕ) → kindOf a ≡ ipco → kindOf b ≡ ipma → pairOf p (a ∷ b ∷ []) ≡ ok (record { first = a; second = b })
 unfolding pairOf
 pair-complete p a b h k = ok-then _ _ tt (ok-check 7 p _ (both-and _ _ (eq-eqb _ _ h) (eq-eqb _ _ k)))
 
@@ -130,7 +130,7 @@ unfolding flat
 flat-pair a b = ap (λ (r : List ℕ). a ++ r) (append-nil b)
 
 -- anyBox: children of which no type is known
-any-sound : (p at : ℕ) (s : List ℕ) (bs : List (List ℕ)) → contain anyBox p at [] s ≡ ok bs → Children (λ k. false) s bs
+pub any-sound : (p at : ℕ) (s : List ℕ) (bs : List (List ℕ)) → contain anyBox p at [] s ≡ ok bs → Children (λ k. false) s bs
 unfolding once check _>>_
 any-sound p at s bs e = children-sound (λ k. false) p at s bs e
 

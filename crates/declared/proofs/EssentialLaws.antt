@@ -14,7 +14,8 @@ use Rattle.rules.specs.Questions.{noAssociation}
 use Rattle.rules.specs.Rules.{essentialKnown}
 use Rattle.rules.specs.Words.{associationWord}
 use Rattle.views.specs.View.{TableOf}
-use Rattle.declared.proofs.NamedLaws.{left-from, box-at, type-at, marked-read, plain-read}
+use Rattle.fields.proofs.ListLaws.{left-from}
+use Rattle.declared.proofs.NamedLaws.{box-at, type-at, marked-read, plain-read}
 
 module _ (f : File) (a : Association) (rest : List Association) where
   known-plain : a .essential ≡ false → essentialKnown f (a ∷ rest) ≡ essentialKnown f rest

@@ -12,20 +12,11 @@ use lib.Dec.{eqb}
 use borrow.Author.Tests.{eq-eqb, ne-eqb}
 use Rattle.fields.specs.Choice.{pick}
 use Rattle.fields.proofs.FieldLaws.{pick-yes, pick-no}
-use Rattle.fields.proofs.TestLaws.{untrue}
+use Rattle.fields.proofs.TestLaws.{untrue, and-true, and-none}
 use Rattle.boxes.specs.Types.{ispe}
 use Rattle.pictures.specs.Decode.{transform}
 use Rattle.rules.specs.Rules.{countOf, ispeBefore, goodIspe}
-use Rattle.declared.proofs.NamedLaws.{left-from}
-
--- _&&_
-and-true : (a : Bool) → (a && true) ≡ a
-and-true true = refl
-and-true false = refl
-
-and-false : (a : Bool) → (a && false) ≡ false
-and-false true = refl
-and-false false = refl
+use Rattle.fields.proofs.ListLaws.{left-from}
 
 unfoldable pub goodFrom : ℕ → Bool → List ℕ → Bool
 goodFrom c t ks = eqb (c + countOf ispe ks) 1 && pick t (eqb (countOf ispe ks) 0) (ispeBefore ks)
@@ -73,7 +64,7 @@ module _ (k : ℕ) (ks : List ℕ) where
 
   good-late : (c : ℕ) → k ≡ ispe → goodFrom c true (k ∷ ks) ≡ false
   unfolding goodFrom pick
-  good-late c e = rw (ne-eqb (countOf ispe (k ∷ ks)) 0 (λ z. omega (arith, count-ispe e, z))) (and-false (eqb (c + countOf ispe (k ∷ ks)) 1))
+  good-late c e = rw (ne-eqb (countOf ispe (k ∷ ks)) 0 (λ z. omega (arith, count-ispe e, z))) (and-none (eqb (c + countOf ispe (k ∷ ks)) 1) false refl)
 
   good-twice : (t : Bool) → k ≡ ispe → goodFrom 1 t (k ∷ ks) ≡ false
   unfolding goodFrom

@@ -1,12 +1,10 @@
 -- What the associations of an item name: the property's type, its box, and how long its content is. Assumes nothing.
 use Prim.Native.Nat.{ℕ, _+_, _%_, _≤_, _<_, _-_}
 use native.Mathlib.Omega.{arith}
-use native.Mathlib.Numerals.{add-one}
 use mathlib.Core.Path.{_≡_, refl, sym, ap, _∙_, subst}
-use mathlib.Core.List.{List, [], _∷_}
+use mathlib.Core.List.{List, []}
 use mathlib.Core.Bool.{Bool, true, false}
-use lib.ListN.{length, getD, drop, length-append, length-map, List·getD-map}
-use lib.Seq.{drop-cons}
+use lib.ListN.{length, getD, length-append, length-map, List·getD-map}
 use lib.Dec.{eqb}
 use borrow.Author.Tests.{eqb-true, eqb-false, ne-eqb}
 use Rattle.fields.specs.Choice.{pick}
@@ -28,10 +26,6 @@ use Rattle.rules.specs.Words.{associationWord}
 use Rattle.views.specs.View.{TableOf}
 use Rattle.views.proofs.PartLaws.{full-length}
 use Rattle.views.proofs.TableLaws.{property-none, no-kind}
-
--- drop: what is left from j on begins with what stands at j
-pub left-from : {A : Type 0} (l : List A) (j : ℕ) (d : A) → j < length l → drop j l ≡ getD l j d ∷ drop (j + 1) l
-left-from l j d h = rw add-one (drop-cons l j d h)
 
 -- associationWord, an index being below 32768
 module _ (i : ℕ) (h : i < 32768) where

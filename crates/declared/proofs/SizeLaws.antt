@@ -21,7 +21,8 @@ use Rattle.rules.specs.Joined.{associationsOf, boxesOf, typesOf}
 use Rattle.rules.specs.Places.{Places}
 use Rattle.rules.specs.Derivations.{declaredIn}
 use Rattle.views.specs.View.{TableOf}
-use Rattle.declared.proofs.NamedLaws.{left-from, type-at, boxes-many, box-held, held-ispe, held-sized}
+use Rattle.fields.proofs.ListLaws.{left-from}
+use Rattle.declared.proofs.NamedLaws.{type-at, boxes-many, box-held, held-ispe, held-sized}
 
 -- declaredIn, turnsOf: the box b at the front
 module _ (b : List ℕ) (bs : List (List ℕ)) where

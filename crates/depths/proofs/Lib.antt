@@ -1,3 +1,4 @@
 pub mod InputLaws
 pub mod RoundLaws
 pub mod MarkLaws
+pub mod GroundLaws

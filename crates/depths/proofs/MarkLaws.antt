@@ -1,7 +1,8 @@
 -- Marks spread from row to input; what is marked at last is what a row is derived from, or what it needs. Assumes nothing.
---   Found t rows n I marks more    what holds of the marks while they spread from the rows I: nothing is left to mark where there is no more
+--   Reaching ..    what holds while rows are left in the list whose inputs are to be marked
+--   Found t rows n I marks    what holds of the marks when none is left, of n rows, from the rows I on
 use Prim.Native.Nat.{ℕ, zero, suc, _+_, _*_, _≤_, _<_}
-use native.Mathlib.Decide.{ℕ-discrete}
+use native.Mathlib.Decide.{decLt}
 use native.Mathlib.Nat.{eq-or-lt-of-le, le-of-suc-le-suc}
 use native.Mathlib.Omega.{arith}
 use mathlib.Core.Path.{_≡_, refl, sym, ap, subst, _∙_}
@@ -20,10 +21,10 @@ use Rattle.pictures.specs.Depth.{Derives, from, over, reaches, derivesItself, d
 use Rattle.pictures.specs.Sources.{needs}
 use Rattle.pictures.proofs.DepthLaws.{reaches-derives, derives-reaches, shallow-reaches, itself-derives, derives-itself}
 use Rattle.depths.specs.Inputs.{InputsAre}
-use Rattle.depths.specs.Rounds.{inputs, inputAt}
-use Rattle.depths.specs.Marks.{Marked, Bits, bare, Among, IsInput, Passes, Grown, Spread, Round}
+use Rattle.depths.specs.Rounds.{at, inputs, inputAt}
+use Rattle.depths.specs.Marks.{Marked, Bits, bare, Among, IsInput, InputOf, Passes, Grown, Spread, Reached, Listing, Closed}
 use Rattle.depths.proofs.InputLaws.{input-member, member-input, member-inside}
-use Rattle.depths.proofs.RoundLaws.{zeros}
+use Rattle.depths.proofs.RoundLaws.{zeros, set-cases}
 
 -- whether a loop that adds has added: what it notes where a turn adds some, and where it adds none
 pub or-took : (p : Bool) {q r : Bool} → q ≡ true → r ≡ true → r ≡ (q || p)
@@ -47,8 +48,17 @@ bare-set (y ∷ ys) (suc x) h e = by (eqb y 0) (bare-set ys x (le-of-suc-le-suc 
     by true h = omega arith
     by false h = omega arith
 
+bare-length : (l : List ℕ) → bare l ≤ length l
+unfolding bare pick
+bare-length [] = omega arith
+bare-length (y ∷ ys) = by (eqb y 0) (bare-length ys)
+  where
+    by : (t : Bool) → bare ys ≤ length ys → pick t (suc (bare ys)) (bare ys) ≤ suc (length ys)
+    by true h = omega arith
+    by false h = omega arith
+
 -- Grown
-grown-same : (l : List ℕ) → Bits l → Grown l l false
+pub grown-same : (l : List ℕ) → Bits l → Grown l l false
 grown-same l b = record { bits = b; stay = λ x m. m; quiet = λ e. refl; more = λ e. untrue e }
 
 bare-le : (a b : List ℕ) (p : Bool) → Grown a b p → bare b ≤ bare a
@@ -57,7 +67,7 @@ bare-le a b false g = omega (arith, ap bare (g .quiet refl))
 
 module _ (a b c : List ℕ) (p : Bool) (g : Grown a b p) where
   -- two after one another: some are added where either adds some
-  grown-both : (q : Bool) → Grown b c q → Grown a c (q || p)
+  pub grown-both : (q : Bool) → Grown b c q → Grown a c (q || p)
   grown-both true h = record { bits = h .bits; stay = λ x m. h .stay x (g .stay x m); quiet = λ e. untrue (sym e); more = λ e. omega (arith, h .more refl, bare-le a b p g) }
   grown-both false h = record { bits = h .bits; stay = λ x m. h .stay x (g .stay x m); quiet = λ e. h .quiet refl ∙ g .quiet e; more = λ e. omega (arith, ap bare (h .quiet refl), g .more e) }
 
@@ -77,99 +87,168 @@ module _ (l : List ℕ) (x : ℕ) (b : Bits l) where
   }
 
   module _ (h : x < length l) (z : getD l x 0 ≡ 0) where
-    set-cases : (y : ℕ) → ((x ≡ y) × Marked (set l x 1) y) ⊎ (getD (set l x 1) y 0 ≡ getD l y 0)
-    set-cases y = elim (ℕ-discrete y x) [ yes e ↦ inl (sym e, subst (Marked (set l x 1)) (sym e) (getD-set-same l x 1 0 h)) | no d ↦ inr (getD-set-other l x y 1 0 d) ]
-
     pub spread-set : Spread (λ y. x ≡ y) l (set l x 1) true
     spread-set = record {
       grown = record {
-        bits = λ y. ⊎-elim (λ w. omega (arith, w .1)) (λ e. omega (arith, e, b y)) (set-cases y);
-        stay = λ y m. ⊎-elim (λ w. w .1) (λ e. e ∙ m) (set-cases y);
+        bits = λ y. ⊎-elim (λ w. omega (arith, w .1)) (λ e. omega (arith, e, b y)) (set-cases l x 1 h y);
+        stay = λ y m. ⊎-elim (λ w. w .1) (λ e. e ∙ m) (set-cases l x 1 h y);
         quiet = λ e. untrue (sym e);
         more = λ e. bare-set l x h z;
       };
       all = λ y e k. subst (Marked (set l x 1)) e (getD-set-same l x 1 0 h);
-      only = λ y m. ⊎-elim (λ w. inr (w .0)) (λ e. inl (sym e ∙ m)) (set-cases y);
+      only = λ y m. ⊎-elim (λ w. inr (w .0)) (λ e. inl (sym e ∙ m)) (set-cases l x 1 h y);
     }
 
--- Spread: one after another
-pub spread-none : (g : ℕ → ℕ) (l : List ℕ) → Bits l → Spread (Among g 0) l l false
-spread-none g l b = record { grown = grown-same l b; all = λ x w k. absurd (omega (arith, w .1)); only = λ x m. inl m }
+-- Reached: one row
+module _ (x : ℕ) (a b l : List ℕ) (e : ℕ) (grew : Bool) (u : Spread (λ y. x ≡ y) a b grew) where
+  pub reached-idle : grew ≡ false → Reached (λ y. x ≡ y) a b l l e e
+  reached-idle f =
+      record {
+        bits = u .grown .bits;
+        stay = u .grown .stay;
+        all = u .all;
+        room = omega (arith, ap bare (u .grown .quiet f));
+        on = omega arith;
+        front = λ j h. refl;
+        back = λ j h k. absurd (omega arith);
+        listed = λ y m. inl (subst (λ (c : List ℕ). Marked c y) (u .grown .quiet f) m);
+      }
 
-module _ (g : ℕ → ℕ) (k : ℕ) (a b c : List ℕ) (p q r : Bool) (same : length b ≡ length a) (e : r ≡ (q || p)) where
-  pub spread-more : (x : ℕ) → x ≡ g k → Spread (Among g k) a b p → Spread (λ y. x ≡ y) b c q → Spread (Among g (k + 1)) a c r
-  spread-more x z s t = record {
-    grown = rw e (grown-both a b c p (s .grown) q (t .grown));
-    all = λ y w l. ⊎-elim (λ i. t .all y (z ∙ ap g (sym i) ∙ w .2) (omega arith)) (λ i. t .grown .stay y (s .all y (w .0, i, w .2) l)) (eq-or-lt-of-le {n = w .0} {m = k} (omega (arith, w .1)));
-    only = λ y m. ⊎-elim (λ n. ⊎-elim (λ o. inl o) (λ o. inr (o .0, omega (arith, o .1), o .2)) (s .only y n)) (λ i. inr (k, omega arith, sym z ∙ i)) (t .only y m);
-  }
+  pub reached-set : grew ≡ true → e < length l → Reached (λ y. x ≡ y) a b l (set l e x) e (e + 1)
+  reached-set f r =
+      record {
+        bits = u .grown .bits;
+        stay = u .grown .stay;
+        all = u .all;
+        room = omega (arith, u .grown .more f);
+        on = omega arith;
+        front = λ j h. getD-set-other l e j x 0 (λ z. absurd (omega arith));
+        back = λ j h k. let z : j ≡ e = omega arith in subst (λ (i : ℕ). x ≡ getD (set l e x) i 0) (sym z) (sym (getD-set-same l e x 0 r));
+        listed = λ y m. ⊎-elim (λ o. inl o) (λ z. inr (e, omega arith, getD-set-same l e x 0 r ∙ z)) (u .only y m);
+      }
+
+-- Reached: one after another
+pub reached-none : (g : ℕ → ℕ) (a l : List ℕ) (e : ℕ) → Bits a → Reached (Among g 0) a a l l e e
+reached-none g a l e b =
+    record {
+      bits = b;
+      stay = λ x m. m;
+      all = λ x w k. absurd (omega (arith, w .1));
+      room = omega arith;
+      on = omega arith;
+      front = λ j h. refl;
+      back = λ j h k. absurd (omega arith);
+      listed = λ x m. inl m;
+    }
+
+pub reached-more : (g : ℕ → ℕ) (k x : ℕ) (a b c l m o : List ℕ) (e d f : ℕ) → length b ≡ length a → x ≡ g k → Reached (Among g k) a b l m e d → Reached (λ y. x ≡ y) b c m o d f → Reached (Among g (k + 1)) a c l o e f
+reached-more g k x a b c l m o e d f same z s u =
+    record {
+      bits = u .bits;
+      stay = λ y n. u .stay y (s .stay y n);
+      all = λ y w h. ⊎-elim (λ i. u .all y (z ∙ ap g (sym i) ∙ w .2) (omega arith)) (λ i. u .stay y (s .all y (w .0, i, w .2) h)) (eq-or-lt-of-le {n = w .0} {m = k} (omega (arith, w .1)));
+      room = omega (arith, s .room, u .room);
+      on = omega (arith, s .on, u .on);
+      front = λ j h. u .front j (omega (arith, s .on)) ∙ s .front j h;
+      back = λ j h i. elim (decLt j d) [
+        | yes p ↦ let w = s .back j h p in (w .0, omega (arith, w .1), w .2 ∙ sym (u .front j p))
+        | no p ↦ (k, omega arith, sym z ∙ u .back j (omega (arith, p)) i)
+      ];
+      listed = λ y n. ⊎-elim (λ p. ⊎-elim (λ q. inl q) (λ q. inr (q .0, omega (arith, q .1, u .on), u .front (q .0) (q .1) ∙ q .2)) (s .listed y p)) (λ p. inr p) (u .listed y n);
+    }
 
 -- the inputs of a row, by the count and the first place that were read
-pub spread-inputs : (t rows : List ℕ) (r k first : ℕ) (a b : List ℕ) (p : Bool) → k ≡ inputs t r → first ≡ getD t (21 + 16 * r) 0 → Spread (Among (λ i. getD rows (first + i) 0) k) a b p → Spread (IsInput t rows r) a b p
-spread-inputs t rows r k first a b p e f s =
-    subst (λ (n : ℕ). Spread (Among (inputAt t rows r) n) a b p) e (subst (λ (o : ℕ). Spread (Among (λ i. getD rows (o + i) 0) k) a b p) f s)
+pub reached-inputs : (t rows : List ℕ) (r k first : ℕ) (a b l m : List ℕ) (e d : ℕ) → k ≡ inputs t r → first ≡ getD t (21 + 16 * r) 0 → Reached (Among (λ i. getD rows (first + i) 0) k) a b l m e d → Reached (IsInput t rows r) a b l m e d
+reached-inputs t rows r k first a b l m e d f g s =
+    subst (λ (n : ℕ). Reached (Among (inputAt t rows r) n) a b l m e d) f (subst (λ (o : ℕ). Reached (Among (λ i. getD rows (o + i) 0) k) a b l m e d) g s)
 
--- Round: one row after another
-module _ (t rows : List ℕ) where
-  pub round-none : (l : List ℕ) → Bits l → Round t rows 0 l l false
-  round-none l b = record { grown = grown-same l b; all = λ r x h. absurd (omega arith); sound = λ Q f h x m. h x m }
+-- the inputs of a listed row, if it is one of n
+module _ (t rows : List ℕ) (n r w : ℕ) (a b l m : List ℕ) (e d : ℕ) (z : r ≡ w) where
+  pub reached-of : r < n → Reached (IsInput t rows r) a b l m e d → Reached (InputOf t rows n w) a b l m e d
+  reached-of h s =
+      subst (λ (y : ℕ). Reached (InputOf t rows n y) a b l m e d) z
+      (record { bits = s .bits; stay = s .stay; all = λ x v. s .all x (v .1); room = s .room; on = s .on; front = s .front; back = λ j i k. (h, s .back j i k); listed = s .listed })
 
-  module _ (r : ℕ) (a b : List ℕ) (p : Bool) (d : Round t rows r a b p) where
-    -- a test that passes on from r + 1 rows passes on from r
-    fewer : (Q : ℕ → Bool) → Passes t rows (r + 1) Q → Passes t rows r Q
-    fewer Q f i x h = f i x (omega arith)
+  pub reached-off : n ≤ r → Bits a → Reached (InputOf t rows n w) a a l l e e
+  reached-off h b =
+      record {
+        bits = b;
+        stay = λ x v. v;
+        all = λ x v k. absurd (omega (arith, v .0));
+        room = omega arith;
+        on = omega arith;
+        front = λ j k. refl;
+        back = λ j i k. absurd (omega arith);
+        listed = λ x v. inl v;
+      }
 
-    round-past : (Marked b r → ⊥) → Round t rows (r + 1) a b p
-    round-past n = record {
-      grown = d .grown;
-      all = λ i x h m w l. ⊎-elim (λ e. absurd (n (subst (Marked b) e (d .grown .stay i m)))) (λ k. d .all i x k m w l) (eq-or-lt-of-le {n = i} {m = r} (omega arith));
-      sound = λ Q f. d .sound Q (fewer Q f);
-    }
-
-    round-on : (c : List ℕ) (q s : Bool) → length b ≡ length a → s ≡ (q || p) → Marked b r → Spread (IsInput t rows r) b c q → Round t rows (r + 1) a c s
-    round-on c q s same e n u = record {
-      grown = rw e (grown-both a b c p (d .grown) q (u .grown));
-      all = λ i x h m w l. ⊎-elim (λ z. u .all x (subst (λ (j : ℕ). IsInput t rows j x) z w) (omega arith)) (λ k. u .grown .stay x (d .all i x k m w l)) (eq-or-lt-of-le {n = i} {m = r} (omega arith));
-      sound = λ Q f h x m. let old = d .sound Q (fewer Q f) h in ⊎-elim (old x) (f r x (omega arith) (old r n)) (u .only x m);
-    }
-
-    -- the same of what the loop holds after the turn
-    module _ (new : List ℕ) (s : Bool) (same : length b ≡ length a) where
-      pub round-idle : (Marked b r → ⊥) → new ≡ b → s ≡ p → (length new ≡ length a) × Round t rows (r + 1) a new s
-      round-idle n e f = rw (e, f) (same, round-past n)
-
-      pub round-turn : Marked b r → (c : List ℕ) (q : Bool) → length c ≡ length b → Spread (IsInput t rows r) b c q → new ≡ c → s ≡ (q || p) → (length new ≡ length a) × Round t rows (r + 1) a new s
-      round-turn n c q l u e f = rw e (l ∙ same, round-on c q s same f n u)
-
--- the marks while they spread from the rows I
-pub record Found (t rows : List ℕ) (n : ℕ) (I : ℕ → Type 0) (marks : List ℕ) (more : Bool) : Type 0 where
+-- Reaching: what holds while the list from place k on is left to do
+pub record Reaching (t rows : List ℕ) (n : ℕ) (old before : List ℕ) (start : ℕ) (marks list : List ℕ) (e k : ℕ) : Type 0 where
   pub bits : Bits marks
+  pub stay : (x : ℕ) → Marked old x → Marked marks x
+  pub follow : (Q : ℕ → Bool) → Passes t rows n Q → ((j : ℕ) → j < start → Q (getD before j 0) ≡ true) → (j : ℕ) → j < e → Q (getD list j 0) ≡ true
+  pub room : e + bare marks ≤ length before
+  pub listed : (x : ℕ) → Marked marks x → Among (at list) e x
+  pub done : (j x : ℕ) → j < k → InputOf t rows n (getD list j 0) x → x < length old → Marked marks x
+  pub passed : k ≤ e
+
+module _ (t rows : List ℕ) (n : ℕ) (a l : List ℕ) (s : ℕ) where
+  pub reaching-first : Listing a l s → Reaching t rows n a l s a l s 0
+  reaching-first w = record { bits = w .bits; stay = λ x m. m; follow = λ Q f h. h; room = w .room; listed = w .listed; done = λ j x h. absurd (omega arith); passed = omega arith }
+
+  module _ (b m : List ℕ) (e k : ℕ) (r : Reaching t rows n a l s b m e k) where
+    pub reaching-next : (c o : List ℕ) (f : ℕ) → k < e → length b ≡ length a → Reached (InputOf t rows n (getD m k 0)) b c m o e f → Reaching t rows n a l s c o f (k + 1)
+    reaching-next c o f p same u =
+        record {
+          bits = u .bits;
+          stay = λ x v. u .stay x (r .stay x v);
+          follow = λ Q w h j i. let known = r .follow Q w h in
+              elim (decLt j e) [
+                | yes q ↦ subst (λ (y : ℕ). Q y ≡ true) (sym (u .front j q)) (known j q)
+                | no q ↦ let v = u .back j (omega (arith, q)) i in w (getD m k 0) (getD o j 0) (v .0) (known k p) (v .1)
+              ];
+          room = omega (arith, r .room, u .room);
+          listed = λ x v. ⊎-elim (λ z. let q = r .listed x z in (q .0, omega (arith, q .1, u .on), u .front (q .0) (q .1) ∙ q .2)) (λ z. z) (u .listed x v);
+          done = λ j x i w h. ⊎-elim
+              (λ z. u .all x (subst (λ (y : ℕ). InputOf t rows n y x) (ap (at o) z ∙ u .front k p) w) (omega arith))
+              (λ z. u .stay x (r .done j x z (subst (λ (y : ℕ). InputOf t rows n y x) (u .front j (omega arith)) w) h))
+              (eq-or-lt-of-le {n = j} {m = k} (omega arith));
+          passed = omega (arith, u .on);
+        }
+
+    pub reaching-last : e ≤ k → Closed t rows n a l s b
+    reaching-last p =
+        record {
+          stay = r .stay;
+          sound = λ Q w h x v. let q = r .listed x v in subst (λ (y : ℕ). Q y ≡ true) (q .2) (r .follow Q w h (q .0) (q .1));
+          closed = λ i x h v w g. let q = r .listed i v in r .done (q .0) x (omega (arith, q .1)) (subst (λ (y : ℕ). InputOf t rows n y x) (sym (q .2)) (h, w)) g;
+        }
+
+-- the marks where all is marked that follows from the rows I
+pub record Found (t rows : List ℕ) (n : ℕ) (I : ℕ → Type 0) (marks : List ℕ) : Type 0 where
   pub first : (x : ℕ) → I x → x < 256 → Marked marks x
   pub sound : (Q : ℕ → Bool) → Passes t rows n Q → ((x : ℕ) → I x → Q x ≡ true) → (x : ℕ) → Marked marks x → Q x ≡ true
-  pub closed : more ≡ false → (i x : ℕ) → i < n → Marked marks i → IsInput t rows i x → x < 256 → Marked marks x
+  pub closed : (i x : ℕ) → i < n → Marked marks i → IsInput t rows i x → x < 256 → Marked marks x
 
 pub zeros-bits : Bits (replicate 256 0)
 zeros-bits x = omega (arith, zeros 256 x)
 
+pub zeros-room : 0 + bare (replicate 256 0) ≤ 256
+zeros-room = let z : bare (replicate 256 0) ≤ 256 = bare-length (replicate 256 0) in omega arith
+
 -- no word of an empty list of marks is 1
-unmarked : {A : Type 0} (x : ℕ) → Marked (replicate 256 0) x → A
+pub unmarked : {A : Type 0} (x : ℕ) → Marked (replicate 256 0) x → A
 unmarked x m = let z = zeros 256 x in absurd (omega arith)
 
-module _ (t rows : List ℕ) (n : ℕ) (I : ℕ → Type 0) where
-  pub found-first : (marks : List ℕ) (more : Bool) → Spread I (replicate 256 0) marks more → Found t rows n I marks more
-  found-first marks more s = record {
-    bits = s .grown .bits;
-    first = s .all;
-    sound = λ Q f h x m. ⊎-elim (unmarked x) (h x) (s .only x m);
-    closed = λ e i x h m. unmarked i (subst (λ (l : List ℕ). Marked l i) (s .grown .quiet e) m);
-  }
+module _ (t rows : List ℕ) (n : ℕ) (I : ℕ → Type 0) (marks l m : List ℕ) (e : ℕ) (r : Reached I (replicate 256 0) marks l m 0 e) where
+  pub listing-first : length m ≡ 256 → Listing marks m e
+  listing-first z = record { bits = r .bits; room = omega (arith, r .room, zeros-room); listed = λ x v. ⊎-elim (unmarked x) (λ p. p) (r .listed x v) }
 
-  pub found-next : (old new : List ℕ) (more still : Bool) → length old ≡ 256 → Found t rows n I old more → Round t rows n old new still → Found t rows n I new still
-  found-next old new more still e f d = record {
-    bits = d .grown .bits;
-    first = λ x w l. d .grown .stay x (f .first x w l);
-    sound = λ Q p h. d .sound Q p (f .sound Q p h);
-    closed = λ q i x h m w l. d .all i x h (subst (λ (l : List ℕ). Marked l i) (d .grown .quiet q) m) w (omega arith);
+  pub found-all : (new : List ℕ) → length marks ≡ 256 → Closed t rows n marks m e new → Found t rows n I new
+  found-all new z c = record {
+    first = λ x w h. c .stay x (r .all x w h);
+    sound = λ Q p h. c .sound Q p (λ j i. h (getD m j 0) (r .back j (omega arith) i));
+    closed = λ i x h v w g. c .closed i x h v w (omega arith);
   }
 
 -- Derives: one derivation more at the end
@@ -179,15 +258,15 @@ derives-on s (over m d) n = over m (derives-on s d n)
 
 module _ (t rows : List ℕ) (s : Scene) (i : InputsAre t rows s) (marks : List ℕ) where
   -- all that a row is derived from is marked where its inputs are, and nothing is left to mark
-  derives-marked : (I : ℕ → Type 0) → Found t rows (length s) I marks false → (k : ℕ) {j : ℕ} → k < length s → ((x : ℕ) → IsInput t rows k x → x < 256 → Marked marks x) → Derives s k j → Marked marks j
+  derives-marked : (I : ℕ → Type 0) → Found t rows (length s) I marks → (k : ℕ) {j : ℕ} → k < length s → ((x : ℕ) → IsInput t rows k x → x < 256 → Marked marks x) → Derives s k j → Marked marks j
   derives-marked I f k {j} l w (from m) = w j (member-input t rows s i k l j m) (omega (arith, member-inside t rows s i k l j m, i .few))
   derives-marked I f k {j} l w (over {k = o} m d) =
       let p = member-inside t rows s i k l o m in
-      derives-marked I f o p (λ x. f .closed refl o x p (w o (member-input t rows s i k l o m) (omega (arith, i .few)))) d
+      derives-marked I f o p (λ x. f .closed o x p (w o (member-input t rows s i k l o m) (omega (arith, i .few)))) d
 
   module _ (r : ℕ) (h : r < length s) where
     -- from the inputs of a row: nothing is marked that it is not derived from
-    module _ (f : Found t rows (length s) (IsInput t rows r) marks false) where
+    module _ (f : Found t rows (length s) (IsInput t rows r) marks) where
       marked-derives : (x : ℕ) → Marked marks x → Derives s r x
       marked-derives x m =
           reaches-derives s (length s) r x
@@ -200,11 +279,11 @@ module _ (t rows : List ℕ) (s : Scene) (i : InputsAre t rows s) (marks : List 
       itself-marked false e = ne-eqb (getD marks r 0) 1 (λ m. untrue (sym e ∙ derives-itself s r (marked-derives r m)))
 
     -- from the row itself: what it needs is marked, and nothing else
-    module _ (f : Found t rows (length s) (λ y. r ≡ y) marks false) where
+    module _ (f : Found t rows (length s) (λ y. r ≡ y) marks) where
       needed-marked : (c : ℕ) → c < length s → needs s r c ≡ true → Marked marks c
       needed-marked c l e =
           ⊎-elim (λ q. f .first c (eqb-true r c q) (omega (arith, i .few)))
-          (λ q. derives-marked (λ y. r ≡ y) f r h (λ x. f .closed refl r x h (f .first r refl (omega (arith, i .few)))) (reaches-derives s 16 r c q))
+          (λ q. derives-marked (λ y. r ≡ y) f r h (λ x. f .closed r x h (f .first r refl (omega (arith, i .few)))) (reaches-derives s 16 r c q))
           (or-either (eqb r c) (reaches 16 s r c) e)
 
       module _ (low : depth s r ≤ 16) where
@@ -226,14 +305,10 @@ module _ (t rows : List ℕ) (s : Scene) (i : InputsAre t rows s) (marks : List 
         needed-found-by c l true e = eq-eqb (getD marks c 0) 1 (needed-marked c l e)
         needed-found-by c l false e = ne-eqb (getD marks c 0) 1 (λ m. untrue (sym e ∙ marked-needed c m))
 
--- the marks when nothing is left to mark, of the scene's rows
-found-last : (t rows : List ℕ) (n : ℕ) (I : ℕ → Type 0) (marks : List ℕ) (more : Bool) → Found t rows n I marks more → more ≡ false → (s : Scene) → length s ≡ n → Found t rows (length s) I marks false
-found-last t rows n I marks more f e s l = subst (λ (m : ℕ). Found t rows m I marks false) (sym l) (subst (Found t rows n I marks) e f)
-
 -- the mark of the row itself is the answer
-pub itself-found : (t rows : List ℕ) (n r : ℕ) (marks : List ℕ) (more : Bool) (w : ℕ) → Found t rows n (IsInput t rows r) marks more → more ≡ false → w ≡ getD marks r 0 → (s : Scene) → length s ≡ n → InputsAre t rows s → r < n → eqb w 1 ≡ derivesItself s r
-itself-found t rows n r marks more w f e z s l i h = rw z (itself-marked t rows s i marks r (omega arith) (found-last t rows n (IsInput t rows r) marks more f e s l) (derivesItself s r) refl)
+pub itself-found : (t rows : List ℕ) (n r : ℕ) (marks : List ℕ) (w : ℕ) → Found t rows n (IsInput t rows r) marks → w ≡ getD marks r 0 → (s : Scene) → length s ≡ n → InputsAre t rows s → r < n → eqb w 1 ≡ derivesItself s r
+itself-found t rows n r marks w f z s l i h = rw z (itself-marked t rows s i marks r (omega arith) (subst (λ (m : ℕ). Found t rows m (IsInput t rows r) marks) (sym l) f) (derivesItself s r) refl)
 
 -- the marks are on what the row needs
-pub needed-found : (t rows : List ℕ) (n r : ℕ) (marks : List ℕ) (more : Bool) → Found t rows n (λ y. r ≡ y) marks more → more ≡ false → (s : Scene) → length s ≡ n → InputsAre t rows s → r < n → depth s r ≤ 16 → (c : ℕ) → c < n → eqb (getD marks c 0) 1 ≡ needs s r c
-needed-found t rows n r marks more f e s l i h low c k = needed-found-by t rows s i marks r (omega arith) (found-last t rows n (λ y. r ≡ y) marks more f e s l) low c (omega arith) (needs s r c) refl
+pub needed-found : (t rows : List ℕ) (n r : ℕ) (marks : List ℕ) → Found t rows n (λ y. r ≡ y) marks → (s : Scene) → length s ≡ n → InputsAre t rows s → r < n → depth s r ≤ 16 → (c : ℕ) → c < n → eqb (getD marks c 0) 1 ≡ needs s r c
+needed-found t rows n r marks f s l i h low c k = needed-found-by t rows s i marks r (omega arith) (subst (λ (m : ℕ). Found t rows m (λ y. r ≡ y) marks) (sym l) f) low c (omega arith) (needs s r c) refl

@@ -1,24 +1,41 @@
--- The rounds give the depths, and a round that changes nothing is the last that is needed. Assumes nothing.
+-- The rounds give the depths, the sweeps give at least the rounds and no more than the depths, and a sweep that changes nothing is the last that is needed. Assumes nothing.
 use Prim.Native.Nat.{ℕ, zero, suc, _+_, _-_, _*_, _≤_, _<_, max}
-use native.Mathlib.Decide.{decLt}
+use native.Mathlib.Decide.{decLt, ℕ-discrete}
 use native.Mathlib.Nat.{eq-or-lt-of-le}
 use native.Mathlib.Numerals.{add-one}
 use native.Mathlib.Omega.{arith}
-use mathlib.Core.Path.{_≡_, refl, sym, ap, subst, _∙_, fun-ext}
+use mathlib.Core.Path.{_≡_, refl, sym, ap, subst, _∙_}
 use mathlib.Core.List.{List, [], _∷_}
-use mathlib.Core.Bool.{Bool, false}
-use mathlib.Core.Logic.{⊎-elim}
+use mathlib.Core.Bool.{Bool, true, false, _||_}
+use mathlib.Core.Logic.{_⊎_, inl, inr, ⊎-elim}
 use lib.ListN.{length, getD, set, replicate}
 use lib.Seq.{getD-set-same, getD-set-other}
-use lib.Dec.{ltb}
 use borrow.Author.Tests.{lt-ltb, le-ltb, ltb-true, ltb-false}
 use Rattle.fields.specs.Choice.{pick}
 use Rattle.fields.proofs.FieldLaws.{both, pick-yes, pick-no}
+use Rattle.fields.proofs.TestLaws.{untrue}
 use Rattle.pictures.specs.Scene.{Scene, pictureAt}
 use Rattle.pictures.specs.Depth.{largest, depthBy, depthN, depth}
+use Rattle.pictures.proofs.DepthLaws.{depth-rule}
 use Rattle.depths.specs.Inputs.{InputsAre}
-use Rattle.depths.specs.Rounds.{inputs, inputAt, at, deepest, nextDepth, rounds, Low, Deepened}
+use Rattle.depths.specs.Rounds.{rowIn, inputs, inputAt, at, deepest, nextDepth, rounds, capped, Above, Low, Deeper, Deepened}
 use Rattle.depths.proofs.InputLaws.{input-inside}
+
+-- rowIn
+module _ (up : Bool) (n k : ℕ) where
+  pub row-up : up ≡ true → k ≡ rowIn up n k
+  unfolding rowIn pick
+  row-up e = rw e
+
+  pub row-down : up ≡ false → n - 1 - k ≡ rowIn up n k
+  unfolding rowIn pick
+  row-down e = rw e
+
+-- a sweep comes to each row: to row r at place rowIn up n r
+pub row-again : (up : Bool) (n r : ℕ) → r < n → (rowIn up n r < n) × (rowIn up n (rowIn up n r) ≡ r)
+unfolding rowIn pick
+row-again true n r h = (h, refl)
+row-again false n r h = (omega arith, omega arith)
 
 -- deepest
 pub deepest-none : (f g : ℕ → ℕ) → 0 ≡ deepest f g 0
@@ -34,6 +51,11 @@ deepest-front : (f g : ℕ → ℕ) (k : ℕ) → deepest f g (suc k) ≡ max (f
 unfolding deepest
 deepest-front f g zero = omega arith
 deepest-front f g (suc k) = let h = deepest-front f g k in omega arith
+
+deepest-over : (f h g : ℕ → ℕ) → ((i : ℕ) → f i ≤ h i) → (k : ℕ) → deepest f g k ≤ deepest h g k
+unfolding deepest
+deepest-over f h g l zero = omega arith
+deepest-over f h g l (suc k) = omega (arith, deepest-over f h g l k, l (g k))
 
 pub deepest-low : (f g : ℕ → ℕ) (m : ℕ) → ((i : ℕ) → f i ≤ m) → (k : ℕ) → deepest f g k ≤ m + 1
 unfolding deepest
@@ -69,6 +91,11 @@ pub next-depth : (t rows : List ℕ) (f : ℕ → ℕ) (r k first d : ℕ) → k
 unfolding nextDepth
 next-depth t rows f r k first d e₁ e₂ e = e ∙ ap (λ (p : ℕ). deepest f (λ i. getD rows (p + i) 0) k) e₂ ∙ ap (deepest f (inputAt t rows r)) e₁
 
+-- deeper inputs, a deeper row
+next-more : (t rows : List ℕ) (f h : ℕ → ℕ) (r : ℕ) → ((i : ℕ) → f i ≤ h i) → nextDepth t rows f r ≤ nextDepth t rows h r
+unfolding nextDepth
+next-more t rows f h r l = deepest-over f h (inputAt t rows r) l (inputs t r)
+
 -- zeros
 pub zeros : (n m : ℕ) → _≡_ {A = ℕ} (getD (replicate n 0) m 0) 0
 zeros zero m = refl
@@ -90,44 +117,46 @@ module _ (t rows : List ℕ) (n : ℕ) where
   by-place : {A : Type 0} (r : ℕ) → (r < n → A) → (n ≤ r → A) → A
   by-place r f g = elim (decLt r n) [ yes l ↦ f l | no l ↦ g (omega (arith, l)) ]
 
-  pub rounds-none : (r : ℕ) → getD (replicate 256 0) r 0 ≡ rounds t rows n 0 r
-  unfolding rounds
-  rounds-none r = zeros 256 r
-
   rounds-low : (k r : ℕ) → rounds t rows n k r ≤ k
   unfolding rounds nextDepth
   rounds-low zero r = omega arith
   rounds-low (suc k) r = both (λ (d : ℕ). d ≤ suc k) _ _ _ (λ e. omega (arith, deepest-low (rounds t rows n k) (inputAt t rows r) k (rounds-low k) (inputs t r))) (λ e. omega arith)
 
-  -- what a round leaves as it was, no later round changes
-  rounds-same : (j k : ℕ) → ((r : ℕ) → rounds t rows n j r ≡ rounds t rows n k r) → (r : ℕ) → rounds t rows n (suc j) r ≡ rounds t rows n (suc k) r
+  -- a round gives no more than words that are at least what follows from at least those of the round before
+  rounds-under : (k : ℕ) (a b : List ℕ) → k < 17 → ((r : ℕ) → rounds t rows n k r ≤ getD a r 0) → ((r : ℕ) → r < n → capped (nextDepth t rows (at a) r) ≤ getD b r 0) → (r : ℕ) → rounds t rows n (suc k) r ≤ getD b r 0
+  rounds-under k a b l h d r =
+      by-place r
+      (λ i. omega (arith, rounds-in k r i, rounds-low (suc k) r, next-more t rows (rounds t rows n k) (at a) r h, d r i))
+      (λ i. omega (arith, rounds-past (suc k) r i))
+
+  rounds-still : (b : List ℕ) → ((r : ℕ) → r < n → capped (nextDepth t rows (at b) r) ≤ getD b r 0) → (k : ℕ) → k ≤ 17 → (r : ℕ) → rounds t rows n k r ≤ getD b r 0
   unfolding rounds
-  rounds-same j k h r = ap (λ (f : ℕ → ℕ). pick (ltb r n) (nextDepth t rows f r) 0) (fun-ext h)
+  rounds-still b d zero l r = omega arith
+  rounds-still b d (suc k) l r = rounds-under k b b (omega arith) (rounds-still b d k (omega arith)) d r
 
-  rounds-still : (k : ℕ) → ((r : ℕ) → rounds t rows n (suc k) r ≡ rounds t rows n k r) → (m r : ℕ) → rounds t rows n (m + k) r ≡ rounds t rows n k r
-  rounds-still k h zero r = let e : 0 + k ≡ k = omega arith in rw e
-  rounds-still k h (suc m) r = let e : suc m + k ≡ suc (m + k) = omega arith in rw e (rounds-same (m + k) k (rounds-still k h m) r ∙ h r)
+-- the words after k sweeps: at least the depths of k rounds, and no more than anything that lies above
+pub record Deep (t rows : List ℕ) (n k : ℕ) (a : List ℕ) : Type 0 where
+  pub low : Low a
+  pub least : (r : ℕ) → rounds t rows n k r ≤ getD a r 0
+  pub most : (top : ℕ → ℕ) → Above t rows n top → (r : ℕ) → getD a r 0 ≤ top r
 
-  module _ (k : ℕ) (a b : List ℕ) (changed : Bool) (now : (r : ℕ) → getD a r 0 ≡ rounds t rows n k r) (d : Deepened t rows n a (replicate 256 0) b changed) where
-    next-same : (r : ℕ) → nextDepth t rows (at a) r ≡ nextDepth t rows (rounds t rows n k) r
-    next-same r = ap (λ (f : ℕ → ℕ). nextDepth t rows f r) (fun-ext now)
+module _ (t rows : List ℕ) (n : ℕ) where
+  pub deep-none : Deep t rows n 0 (replicate 256 0)
+  unfolding rounds
+  deep-none = record { low = λ r. omega (arith, zeros 256 r); least = λ r. omega arith; most = λ top w r. omega (arith, zeros 256 r) }
 
-    -- a round takes the depths one step on
-    pub rounds-next : (r : ℕ) → getD b r 0 ≡ rounds t rows n (k + 1) r
-    rounds-next r = rw (add-one k) (by-place r (λ h. d .done r h ∙ next-same r ∙ sym (rounds-in k r h)) (λ h. d .rest r h ∙ zeros 256 r ∙ sym (rounds-past (suc k) r h)))
+  module _ (k : ℕ) (a b : List ℕ) (changed : Bool) (w : Deep t rows n k a) (d : Deepened t rows n a b changed) where
+    pub deep-next : k < 17 → Deep t rows n (k + 1) b
+    deep-next l = record { low = d .low; least = λ r. rw (add-one k) (rounds-under t rows n k a b l (w .least) (d .done) r); most = λ top v. d .sound top v (w .most top v) }
 
-    -- the depths before a round that changes nothing are those after it, and after every later one
-    rounds-quiet : changed ≡ false → (r : ℕ) → rounds t rows n (suc k) r ≡ rounds t rows n k r
-    rounds-quiet e r = by-place r (λ h. rounds-in k r h ∙ sym (next-same r) ∙ sym (d .quiet e r h) ∙ now r) (λ h. rounds-past (suc k) r h ∙ sym (rounds-past k r h))
-
-    pub rounds-last : changed ≡ false → (m : ℕ) → k ≤ m → (r : ℕ) → getD b r 0 ≡ rounds t rows n m r
-    rounds-last e m l r =
-        let q : m ≡ (m - k) + k = omega arith in
-        rounds-next r ∙ rw (add-one k) (rounds-quiet e r ∙ sym (rounds-still k (rounds-quiet e) (m - k) r) ∙ ap (λ (i : ℕ). rounds t rows n i r) (sym q))
-
-  -- the words of a round fit
-  pub rounds-fit : (k : ℕ) (a : List ℕ) → k ≤ 17 → ((r : ℕ) → getD a r 0 ≡ rounds t rows n k r) → Low a
-  rounds-fit k a h e r = omega (arith, e r, rounds-low k r)
+    -- where nothing changed the words follow from themselves, and no further round gives more
+    pub deep-last : changed ≡ false → Deep t rows n 17 b
+    deep-last e =
+        record {
+          low = d .low;
+          least = rounds-still t rows n b (subst (λ (l : List ℕ). (r : ℕ) → r < n → capped (nextDepth t rows (at l) r) ≤ getD b r 0) (sym (d .quiet e)) (d .done)) 17 (omega arith);
+          most = λ top v. d .sound top v (w .most top v);
+        }
 
 -- the rounds give the depths of the scene
 module _ (t rows : List ℕ) (s : Scene) (i : InputsAre t rows s) where
@@ -136,30 +165,75 @@ module _ (t rows : List ℕ) (s : Scene) (i : InputsAre t rows s) where
   rounds-depth zero r h = refl
   rounds-depth (suc k) r h = rounds-in t rows (length s) k r h ∙ rw (i .count r h) (deepest-depth (rounds t rows (length s) k) (inputAt t rows r) (λ j. depthN k s j) (pictureAt s r .inputs) (λ j l. ap (rounds t rows (length s) k) (i .row r j h l) ∙ rounds-depth k _ (input-inside t rows s i r h j l)))
 
--- the words of the 17th round are the depths
-pub depth-found : (t rows : List ℕ) (n k : ℕ) (a : List ℕ) → ((r : ℕ) → getD a r 0 ≡ rounds t rows n k r) → k ≡ 17 → (s : Scene) → length s ≡ n → InputsAre t rows s → (r : ℕ) → r < n → getD a r 0 ≡ depth s r
-depth-found t rows n k a h e s l i r q = h r ∙ ap (λ (j : ℕ). rounds t rows n j r) e ∙ ap (λ (m : ℕ). rounds t rows m 17 r) (sym l) ∙ rounds-depth t rows s i 17 r (omega arith)
+  -- the depths lie above what follows from them
+  next-by : (f : ℕ → ℕ) (r : ℕ) → r < length s → nextDepth t rows f r ≡ depthBy (pictureAt s r .inputs) f
+  unfolding nextDepth
+  next-by f r h = rw (i .count r h) (deepest-depth f (inputAt t rows r) f (pictureAt s r .inputs) (λ j l. ap f (i .row r j h l)))
 
--- one round, row by row
-module _ (t rows : List ℕ) (before old : List ℕ) where
-  pub deepened-none : Deepened t rows 0 before old old false
-  deepened-none = record { done = λ r h. absurd (omega arith); rest = λ r h. refl; quiet = λ e r h. absurd (omega arith) }
+  depth-above : Above t rows (length s) (λ j. depth s j)
+  depth-above r h = elim (decLt (depth s r) 17) [ yes l ↦ omega (arith, depth-rule s r (omega arith), next-by (λ j. depth s j) r h) | no l ↦ omega (arith, l) ]
 
-  -- one row more: its word is set, and nothing changed only where nothing did before and its word was right
-  module _ (r d : ℕ) (new : List ℕ) (changed still : Bool) (w : Deepened t rows r before old new changed) (h : r < length new) (e : d ≡ nextDepth t rows (at before) r) where
-    done-more : (j : ℕ) → j < r + 1 → getD (set new r d) j 0 ≡ nextDepth t rows (at before) j
-    done-more j k =
-        ⊎-elim
-        (λ z. subst (λ (i : ℕ). getD (set new r d) i 0 ≡ nextDepth t rows (at before) i) (sym z) (getD-set-same new r d 0 h ∙ e))
-        (λ z. getD-set-other new r j d 0 (λ q. absurd (omega arith)) ∙ w .done j z)
-        (eq-or-lt-of-le {n = j} {m = r} (omega arith))
+-- the words after the 17th sweep are the depths
+pub depth-found : (t rows : List ℕ) (n k : ℕ) (a : List ℕ) → Deep t rows n k a → k ≡ 17 → (s : Scene) → length s ≡ n → InputsAre t rows s → (r : ℕ) → r < n → getD a r 0 ≡ depth s r
+depth-found t rows n k a w e s l i r q =
+    let v = subst (λ (m : ℕ). Deep t rows m 17 a) (sym l) (subst (λ (j : ℕ). Deep t rows n j a) e w) in
+    omega (arith, v .least r, rounds-depth t rows s i 17 r (omega arith), v .most (λ j. depth s j) (depth-above t rows s i) r)
 
-    quiet-more : changed ≡ false → d ≡ getD before r 0 → (j : ℕ) → j < r + 1 → getD before j 0 ≡ nextDepth t rows (at before) j
-    quiet-more f g j k = ⊎-elim (λ z. subst (λ (i : ℕ). getD before i 0 ≡ nextDepth t rows (at before) i) (sym z) (sym g ∙ e)) (w .quiet f j) (eq-or-lt-of-le {n = j} {m = r} (omega arith))
+-- set: the place that is set, or another
+pub set-cases : (l : List ℕ) (r v : ℕ) → r < length l → (x : ℕ) → ((r ≡ x) × (getD (set l r v) x 0 ≡ v)) ⊎ (getD (set l r v) x 0 ≡ getD l x 0)
+set-cases l r v h x = elim (ℕ-discrete x r) [ yes e ↦ inl (sym e, subst (λ (y : ℕ). getD (set l r v) y 0 ≡ v) (sym e) (getD-set-same l r v 0 h)) | no d ↦ inr (getD-set-other l r x v 0 d) ]
 
-    pub deepened-more : (still ≡ false → (changed ≡ false) × (d ≡ getD before r 0)) → Deepened t rows (r + 1) before old (set new r d) still
-    deepened-more q = record {
-      done = done-more;
-      rest = λ j k. getD-set-other new r j d 0 (λ z. absurd (omega arith)) ∙ w .rest j (omega arith);
-      quiet = λ f. quiet-more (q f .0) (q f .1);
+-- Deeper
+module _ (t rows : List ℕ) (r v d w : ℕ) (l : List ℕ) (b : Low l) (f : v ≡ nextDepth t rows (at l) r) (e : d ≡ capped v) (z : w ≡ getD l r 0) where
+  pub deeper-same : d ≤ w → Deeper t rows r l l false
+  deeper-same h = record { low = b; stay = λ x. omega arith; done = omega (arith, f, e, z); only = λ x. inr refl; quiet = λ q. refl }
+
+  pub deeper-set : r < length l → w < d → Deeper t rows r l (set l r d) true
+  deeper-set h k =
+      record {
+        low = λ x. ⊎-elim (λ c. omega (arith, c .1, e)) (λ c. omega (arith, c, b x)) (set-cases l r d h x);
+        stay = λ x. ⊎-elim (λ c. omega (arith, c .1, z, ap (at l) (c .0))) (λ c. omega (arith, c)) (set-cases l r d h x);
+        done = omega (arith, f, e, getD-set-same l r d 0 h);
+        only = λ x. ⊎-elim (λ c. inl (c .0, omega (arith, c .1, f, e))) (λ c. inr c) (set-cases l r d h x);
+        quiet = λ q. untrue (sym q);
+      }
+
+-- Deepening: one row after another, the row at place k is g k
+pub record Deepening (t rows : List ℕ) (n : ℕ) (g : ℕ → ℕ) (k : ℕ) (old new : List ℕ) (changed : Bool) : Type 0 where
+  pub low : Low new
+  pub stay : (x : ℕ) → getD old x 0 ≤ getD new x 0
+  pub done : (j : ℕ) → j < k → capped (nextDepth t rows (at old) (g j)) ≤ getD new (g j) 0
+  pub sound : (top : ℕ → ℕ) → Above t rows n top → ((r : ℕ) → getD old r 0 ≤ top r) → (r : ℕ) → getD new r 0 ≤ top r
+  pub quiet : changed ≡ false → new ≡ old
+
+neither : (q p : Bool) → (q || p) ≡ false → (q ≡ false) × (p ≡ false)
+neither true p e = untrue (sym e)
+neither false p e = (refl, e)
+
+module _ (t rows : List ℕ) (n : ℕ) (g : ℕ → ℕ) where
+  pub deepening-none : (l : List ℕ) → Low l → Deepening t rows n g 0 l l false
+  deepening-none l b = record { low = b; stay = λ x. omega arith; done = λ j h. absurd (omega arith); sound = λ top w h. h; quiet = λ e. refl }
+
+  pub deepening-more : (k r : ℕ) (a b c : List ℕ) (p q s : Bool) → r ≡ g k → r < n → s ≡ (q || p) → Deepening t rows n g k a b p → Deeper t rows r b c q → Deepening t rows n g (k + 1) a c s
+  deepening-more k r a b c p q s e h f d u =
+      record {
+        low = u .low;
+        stay = λ x. omega (arith, d .stay x, u .stay x);
+        done = λ j i. ⊎-elim
+            (λ z. subst (λ (y : ℕ). capped (nextDepth t rows (at a) y) ≤ getD c y 0) (e ∙ ap g (sym z)) (omega (arith, u .done, next-more t rows (at a) (at b) r (d .stay))))
+            (λ z. omega (arith, d .done j z, u .stay (g j)))
+            (eq-or-lt-of-le {n = j} {m = k} (omega arith));
+        sound = λ top w o x. let below = d .sound top w o in
+            ⊎-elim (λ z. omega (arith, z .1, next-more t rows (at b) top r below, w r h, ap top (z .0))) (λ z. omega (arith, z, below x)) (u .only x);
+        quiet = λ z. let v = neither q p (sym f ∙ z) in u .quiet (v .0) ∙ d .quiet (v .1);
+      }
+
+pub deepening-end : (t rows : List ℕ) (n : ℕ) (up : Bool) (k : ℕ) (a b : List ℕ) (p : Bool) → n ≤ k → Deepening t rows n (rowIn up n) k a b p → Deepened t rows n a b p
+deepening-end t rows n up k a b p e d =
+    record {
+      low = d .low;
+      stay = d .stay;
+      done = λ r h. let z = row-again up n r h in subst (λ (y : ℕ). capped (nextDepth t rows (at a) y) ≤ getD b y 0) (z .1) (d .done (rowIn up n r) (omega (arith, z .0)));
+      sound = d .sound;
+      quiet = d .quiet;
     }

@@ -1,16 +1,29 @@
 // Rules 18 and 19: how deep pictures lie, and which derive from themselves.
 // `table` is read for each row's first target and count of targets; `rows` has, target by target, the row that it names.
 ghost use mathlib.Core.Path.{_≡_};
-ghost use Prim.Native.Nat.{ℕ, _≤_, _<_};
+ghost use mathlib.Core.Bool.{true, false};
+ghost use Prim.Native.Nat.{ℕ, _+_, _≤_, _<_};
 ghost use lib.ListN.{length, getD};
 ghost use Rattle.pictures.specs.Scene.{Scene};
 ghost use lib.Dec.{eqb};
 ghost use Rattle.pictures.specs.Depth.{depth, derivesItself};
 ghost use Rattle.pictures.specs.Sources.{needs};
 ghost use Rattle.depths.specs.Inputs.{InputsAre};
-ghost use Rattle.depths.specs.Rounds.{at, nextDepth, Low, Deepened};
-ghost use Rattle.depths.specs.Marks.{Bits, IsInput, Spread, Round};
+ghost use Rattle.depths.specs.Rounds.{rowIn, at, nextDepth, capped, Low, Deeper, Deepened};
+ghost use Rattle.depths.specs.Marks.{Marked, Bits, bare, IsInput, InputOf, Spread, Reached, Listing, Closed};
+ghost use Rattle.depths.specs.Grounds.{Ground};
 use table::ItemRow;
+
+// The row at a place of a sweep over n rows, upwards or downwards: rows that rest on later ones settle in the one, on earlier ones in the other.
+fn row_in_sweep(n: usize, k: usize, up: bool) -> ItemRow
+    requires { ⌜ k < n ⌝ }
+    ensures { λ r. ⌜ (r .0 ≡ rowIn up n k) × (r .0 < n) ⌝ }
+{
+    if up {
+        return ItemRow(k);
+    }
+    ItemRow(n - 1 - k)
+}
 
 // 1 plus the deepest input of a row by the depths so far; 0 where there is no input.
 fn depth_by(table: &[u32], rows: &[u32], depths: &[u32], row: ItemRow) -> u32
@@ -32,42 +45,62 @@ fn depth_by(table: &[u32], rows: &[u32], depths: &[u32], row: ItemRow) -> u32
     deepest
 }
 
-// One round over the n rows: the depths that follow from those of the round before. Whether any changed.
-fn deepen(table: &[u32], rows: &[u32], n: usize, before: &[u32], after: &mut [u32]) -> bool
-    requires { ⌜ (n ≤ 256) × (n ≤ length (now after)) × Low (now before) ⌝ }
-    ensures { λ changed. ⌜ Deepened (now (table .entry)) (now (rows .entry)) n (now (before .entry)) (now (after .entry)) (now (after .exit)) changed ⌝ }
+// A depth as it is kept: 17 stands for over 16.
+fn kept_depth(d: u32) -> u32
+    ensures { λ r. ⌜ r ≡ capped d ⌝ }
+{
+    if d < 17 { d } else { 17 }
+}
+
+// Sets the depth of a row to what follows from those of its inputs, where it is less; whether it was.
+fn deepen_row(table: &[u32], rows: &[u32], depths: &mut [u32], row: ItemRow) -> bool
+    requires { ⌜ (row .0 ≤ 256) × (row .0 < length (now depths)) × Low (now depths) ⌝ }
+    ensures { λ changed. ⌜ Deeper (now (table .entry)) (now (rows .entry)) (row .0) (now (depths .entry)) (now (depths .exit)) changed ⌝ }
+{
+    let r = row.0;
+    let d = kept_depth(depth_by(table, rows, &*depths, row));
+    if table::word(&*depths, r) < d {
+        depths[r] = d;
+        return true;
+    }
+    false
+}
+
+// One sweep over the n rows: the depths that follow from those so far. Whether any changed.
+fn deepen(table: &[u32], rows: &[u32], n: usize, up: bool, depths: &mut [u32]) -> bool
+    requires { ⌜ (n ≤ 256) × (n ≤ length (now depths)) × Low (now depths) ⌝ }
+    ensures { λ changed. ⌜ Deepened (now (table .entry)) (now (rows .entry)) n (now (depths .entry)) (now (depths .exit)) changed ⌝ }
 {
     let mut changed = false;
-    let mut r: usize = 0;
-    while r < n {
-        let d = depth_by(table, rows, before, ItemRow(r));
-        if d != table::word(before, r) {
+    let mut k: usize = 0;
+    while k < n {
+        let row = row_in_sweep(n, k, up);
+        if deepen_row(table, rows, depths, row) {
             changed = true;
         }
-        after[r] = d;
-        r += 1;
+        k += 1;
     }
     changed
 }
 
-// The depth of each of n rows, 17 where it is over 16. Rounds end as soon as one changes nothing, so the cost goes by the depth that is there.
+// The depth of each of n rows, 17 where it is over 16. Sweeps end as soon as one changes nothing: inputs that stand before what is made of them take two.
 pub fn depths_of(table: &[u32], rows: &[u32], n: usize) -> [u32; 256]
     requires { ⌜ n ≤ 256 ⌝ }
     ensures { λ d. ⌜ ((s : Scene) → length s ≡ n → InputsAre (now (table .entry)) (now (rows .entry)) s → (r : ℕ) → r < n → getD d r 0 ≡ depth s r) ⌝ }
 {
-    let mut a = [0u32; 256];
+    let mut depths = [0u32; 256];
+    let mut up = false;
     let mut k: usize = 0;
     while k < 17 {
-        let mut b = [0u32; 256];
-        let changed = deepen(table, rows, n, &a, &mut b);
-        a = b;
+        up = !up;
+        let changed = deepen(table, rows, n, up, &mut depths);
         if changed {
             k += 1;
         } else {
             k = 17;
         }
     }
-    a
+    depths
 }
 
 // Marks a row; whether it was not yet marked. A row past the last mark is left out.
@@ -84,44 +117,84 @@ fn mark(marks: &mut [u32], x: usize) -> bool
     false
 }
 
-// Marks the inputs of a row; whether a new one was marked.
-fn spread_row(table: &[u32], rows: &[u32], marks: &mut [u32], row: ItemRow) -> bool
-    requires { ⌜ (row .0 ≤ 256) × Bits (now marks) ⌝ }
-    ensures { λ grew. ⌜ Spread (IsInput (now (table .entry)) (now (rows .entry)) (row .0)) (now (marks .entry)) (now (marks .exit)) grew ⌝ }
+// Marks a row and lists it at the list's end, where it was not yet marked; where the list ends then.
+fn list_row(marks: &mut [u32], list: &mut [u32], end: usize, x: u32) -> usize
+    requires { ⌜ Bits (now marks) × (end + bare (now marks) ≤ length (now list)) ⌝ }
+    ensures { λ e. ⌜ Reached (λ y. x ≡ y) (now (marks .entry)) (now (marks .exit)) (now (list .entry)) (now (list .exit)) end e ⌝ }
+{
+    if mark(marks, x as usize) {
+        list[end] = x;
+        return end + 1;
+    }
+    end
+}
+
+// Marks the inputs of a row and lists those that were not yet marked; where the list ends then.
+fn reach(
+    table: &[u32],
+    rows: &[u32],
+    marks: &mut [u32],
+    list: &mut [u32],
+    start: usize,
+    row: ItemRow,
+) -> usize
+    requires { ⌜ (row .0 ≤ 256) × Bits (now marks) × (start + bare (now marks) ≤ length (now list)) ⌝ }
+    ensures { λ e. ⌜ Reached (IsInput (now (table .entry)) (now (rows .entry)) (row .0)) (now (marks .entry)) (now (marks .exit)) (now (list .entry)) (now (list .exit)) start e ⌝ }
 {
     let r = row.0;
     let k = table::word(table, 22 + 16 * r) as usize;
     let first = table::word(table, 21 + 16 * r) as usize;
-    let mut grew = false;
+    let mut end = start;
     let mut j: usize = 0;
     while j < k {
-        if mark(marks, table::word(rows, first + j) as usize) {
-            grew = true;
-        }
+        let x = table::word(rows, first + j);
+        end = list_row(marks, list, end, x);
         j += 1;
     }
-    grew
+    end
 }
 
-// Marks the inputs of marked rows; whether a new one was marked.
-fn spread(table: &[u32], rows: &[u32], n: usize, marks: &mut [u32]) -> bool
-    requires { ⌜ (n ≤ 256) × Bits (now marks) ⌝ }
-    ensures { λ grew. ⌜ Round (now (table .entry)) (now (rows .entry)) n (now (marks .entry)) (now (marks .exit)) grew ⌝ }
+// Marks and lists the inputs of the row that the list has at k, if it is one of n.
+fn reach_listed(
+    table: &[u32],
+    rows: &[u32],
+    n: usize,
+    marks: &mut [u32],
+    list: &mut [u32],
+    end: usize,
+    k: usize,
+) -> usize
+    requires { ⌜ (n ≤ 256) × Bits (now marks) × (end + bare (now marks) ≤ length (now list)) ⌝ }
+    ensures { λ e. ⌜ Reached (InputOf (now (table .entry)) (now (rows .entry)) n (getD (now (list .entry)) k 0)) (now (marks .entry)) (now (marks .exit)) (now (list .entry)) (now (list .exit)) end e ⌝ }
 {
-    let mut grew = false;
-    let mut r: usize = 0;
-    while r < n {
-        if table::word(&*marks, r) == 1 {
-            if spread_row(table, rows, marks, ItemRow(r)) {
-                grew = true;
-            }
-        }
-        r += 1;
+    let r = table::word(&*list, k) as usize;
+    if r < n {
+        return reach(table, rows, marks, list, end, ItemRow(r));
     }
-    grew
+    end
 }
 
-// Whether the picture in a row is derived from itself: what is reached from it is marked, round by round, until nothing new is.
+// Marks all that the listed rows lead to. Each row is listed once, so the cost goes by the inputs that are there, in whatever order they stand.
+fn reach_all(
+    table: &[u32],
+    rows: &[u32],
+    n: usize,
+    marks: &mut [u32],
+    list: &mut [u32],
+    start: usize,
+)
+    requires { ⌜ (n ≤ 256) × Listing (now marks) (now list) start ⌝ }
+    ensures { λ _. ⌜ Closed (now (table .entry)) (now (rows .entry)) n (now (marks .entry)) (now (list .entry)) start (now (marks .exit)) ⌝ }
+{
+    let mut end = start;
+    let mut k: usize = 0;
+    while k < end {
+        end = reach_listed(table, rows, n, marks, list, end, k);
+        k += 1;
+    }
+}
+
+// Whether the picture in a row is derived from itself: what is reached from it is marked.
 pub fn derives_itself(table: &[u32], rows: &[u32], n: usize, row: ItemRow) -> bool
     requires { ⌜ n ≤ 256 ⌝ }
     ensures { λ b. ⌜ ((s : Scene) → length s ≡ n → InputsAre (now (table .entry)) (now (rows .entry)) s → row .0 < n → b ≡ derivesItself s (row .0)) ⌝ }
@@ -131,10 +204,9 @@ pub fn derives_itself(table: &[u32], rows: &[u32], n: usize, row: ItemRow) -> bo
         return false;
     }
     let mut marks = [0u32; 256];
-    let mut more = spread_row(table, rows, &mut marks, row);
-    while more {
-        more = spread(table, rows, n, &mut marks);
-    }
+    let mut list = [0u32; 256];
+    let end = reach(table, rows, &mut marks, &mut list, 0, row);
+    reach_all(table, rows, n, &mut marks, &mut list, end);
     table::word(&marks, r) == 1
 }
 
@@ -145,9 +217,89 @@ pub fn needed_of(table: &[u32], rows: &[u32], n: usize, row: ItemRow) -> [u32; 2
 {
     let r = row.0;
     let mut marks = [0u32; 256];
-    let mut more = mark(&mut marks, r);
-    while more {
-        more = spread(table, rows, n, &mut marks);
+    if n <= r {
+        return marks;
     }
+    let mut list = [0u32; 256];
+    let end = list_row(&mut marks, &mut list, 0, r as u32);
+    reach_all(table, rows, n, &mut marks, &mut list, end);
     marks
+}
+
+// Whether all inputs of a row are marked.
+fn rests_on_marked(table: &[u32], rows: &[u32], marks: &[u32], row: ItemRow) -> bool
+    requires { ⌜ row .0 ≤ 256 ⌝ }
+    ensures { λ b. ⌜ (b ≡ true → (x : ℕ) → IsInput (now (table .entry)) (now (rows .entry)) (row .0) x → Marked (now (marks .entry)) x) ⌝ }
+{
+    let r = row.0;
+    let k = table::word(table, 22 + 16 * r) as usize;
+    let first = table::word(table, 21 + 16 * r) as usize;
+    let mut j: usize = 0;
+    while j < k {
+        if table::word(marks, table::word(rows, first + j) as usize) != 1 {
+            return false;
+        }
+        j += 1;
+    }
+    true
+}
+
+// Marks a row if all its inputs are marked; whether it was not yet marked.
+fn ground_row(table: &[u32], rows: &[u32], marks: &mut [u32], row: ItemRow) -> bool
+    requires { ⌜ (row .0 ≤ 256) × Bits (now marks) ⌝ }
+    ensures { λ grew. ⌜ Ground (now (table .entry)) (now (rows .entry)) (now (marks .entry)) (now (marks .exit)) grew ⌝ }
+{
+    let r = row.0;
+    if table::word(&*marks, r) == 0 {
+        if rests_on_marked(table, rows, &*marks, row) {
+            return mark(marks, r);
+        }
+    }
+    false
+}
+
+// One sweep over the n rows: marks those whose inputs are all marked. Whether a new one was marked.
+fn ground(table: &[u32], rows: &[u32], n: usize, up: bool, marks: &mut [u32]) -> bool
+    requires { ⌜ (n ≤ 256) × Bits (now marks) ⌝ }
+    ensures { λ grew. ⌜ Ground (now (table .entry)) (now (rows .entry)) (now (marks .entry)) (now (marks .exit)) grew ⌝ }
+{
+    let mut grew = false;
+    let mut k: usize = 0;
+    while k < n {
+        let row = row_in_sweep(n, k, up);
+        if ground_row(table, rows, marks, row) {
+            grew = true;
+        }
+        k += 1;
+    }
+    grew
+}
+
+// Whether all of n rows are marked.
+fn all_marked(marks: &[u32], n: usize) -> bool
+    ensures { λ b. ⌜ (b ≡ true → (r : ℕ) → r < n → Marked (now (marks .entry)) r) ⌝ }
+{
+    let mut r: usize = 0;
+    while r < n {
+        if table::word(marks, r) != 1 {
+            return false;
+        }
+        r += 1;
+    }
+    true
+}
+
+// Whether every row rests on pictures without inputs alone, so that none is derived from itself: marks spread from inputs up, sweep by sweep, until nothing new is marked.
+pub fn all_grounded(table: &[u32], rows: &[u32], n: usize) -> bool
+    requires { ⌜ n ≤ 256 ⌝ }
+    ensures { λ b. ⌜ (b ≡ true → (s : Scene) → length s ≡ n → InputsAre (now (table .entry)) (now (rows .entry)) s → (r : ℕ) → r < n → derivesItself s r ≡ false) ⌝ }
+{
+    let mut marks = [0u32; 256];
+    let mut up = false;
+    let mut more = true;
+    while more {
+        up = !up;
+        more = ground(table, rows, n, up, &mut marks);
+    }
+    all_marked(&marks, n)
 }

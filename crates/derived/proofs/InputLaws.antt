@@ -10,38 +10,15 @@ use mathlib.Core.Bool.{Bool, true, false, _&&_}
 use mathlib.Core.Logic.{⊎-elim}
 use lib.ListN.{length, getD, set, drop, drop-of-length-le}
 use lib.Seq.{getD-set-same, getD-set-other, drop-cons}
-use Rattle.fields.specs.Lists.{member}
-use Rattle.fields.proofs.FieldLaws.{both}
 use Rattle.boxes.specs.Types.{image}
-use Rattle.table.specs.declared.ItemRow.{ItemRow}
-use Rattle.contents.specs.Iinf.{Item, idsOf}
 use Rattle.contents.specs.File.{File}
 use Rattle.rules.specs.Joined.{targetsOf, rowOf, itemAt}
 use Rattle.rules.specs.Places.{Places}
 use Rattle.rules.specs.Derivations.{allImages}
-use Rattle.records.specs.declared.FoundRow.{FoundRow}
-use Rattle.records.specs.declared.FoundRow.the-variants.{At, Nothing}
 use Rattle.views.specs.View.{TableOf, recordWord, idOf}
-use Rattle.views.specs.Told.{toldRow}
-use Rattle.views.proofs.LookupLaws.{row-of-none, row-listed}
-use Rattle.views.proofs.TableLaws.{row-small}
+use Rattle.views.proofs.LookupLaws.{row-listed}
+use Rattle.views.proofs.TableLaws.{row-small, test-read}
 use Rattle.derived.specs.Told.{Resolved}
-
--- toldRow: what a lookup that finds a row says, and one that finds none
-module _ (id : ℕ) (is : List Item) where
-  pub told-at : (r : ItemRow) → At r ≡ toldRow id is → (r .0 ≡ rowOf id is) × (r .0 < length is)
-  unfolding toldRow
-  told-at r =
-      both (λ (x : FoundRow). At r ≡ x → (r .0 ≡ rowOf id is) × (r .0 < length is)) (member id (idsOf is)) _ _
-      (λ e q. let z : r .0 ≡ rowOf id is = cc in (z, omega (arith, row-listed is id e)))
-      (λ e q. let z : _≡_ {A = ℕ} 0 1 = cc in absurd (omega arith))
-
-  pub told-nothing : Nothing ≡ toldRow id is → length is ≡ rowOf id is
-  unfolding toldRow
-  told-nothing =
-      both (λ (x : FoundRow). Nothing ≡ x → length is ≡ rowOf id is) (member id (idsOf is)) _ _
-      (λ e q. let z : _≡_ {A = ℕ} 0 1 = cc in absurd (omega arith))
-      (λ e q. sym (row-of-none is id e))
 
 -- Resolved
 abbrev pub ResolvedTo : List ℕ → List ℕ → File → ℕ → Type 0
@@ -70,12 +47,6 @@ module _ {t head : List ℕ} {pl : Places} {f : File} (v : TableOf t head pl f) 
     pub inputs-few : length (targetsOf f (idOf f r)) ≤ 2048
     inputs-few = omega (arith, v .target-room r h, v .bounded .few-targets)
 
-    pub type-read : (kind : ℕ) → (r < 256 → kind ≡ recordWord t r 1) → kind ≡ itemAt f r .type
-    type-read kind e = e (row-small v r h) ∙ v .type r h
-
-    pub test-read : (test : ℕ → Bool) (kind : ℕ) (b : Bool) → (r < 256 → kind ≡ recordWord t r 1) → b ≡ test kind → test (itemAt f r .type) ≡ b
-    test-read test kind b e q = sym (q ∙ ap test (type-read kind e))
-
     pub input-row : (rows : List ℕ) → Resolved t rows f → (j : ℕ) → j < length (targetsOf f (idOf f r)) → (first row : ℕ) → (r < 256 → first ≡ recordWord t r 5) → row ≡ getD rows (first + j) 0
         → row ≡ rowOf (getD (targetsOf f (idOf f r)) j 0) (f .items)
     input-row rows w j l first row e q =
@@ -89,7 +60,7 @@ module _ {t head : List ℕ} {pl : Places} {f : File} (v : TableOf t head pl f) 
       → b ≡ image (itemAt f (rowOf (getD (targetsOf f (idOf f r)) j 0) (f .items)) .type)
   input-image r j l row kind b e q z =
       let m = row-listed (f .items) (getD (targetsOf f (idOf f r)) j 0) (v .sound .listed (idOf f r) j l) in
-      sym (test-read row (omega arith) image kind b q z) ∙ ap (λ (a : ℕ). image (itemAt f a .type)) e
+      sym (test-read v row (omega arith) image kind b q z) ∙ ap (λ (a : ℕ). image (itemAt f a .type)) e
 
 -- allImages, input by input
 module _ (f : File) (ts : List ℕ) where

@@ -2,15 +2,15 @@
 use Prim.Native.Nat.{ℕ, _*_}
 use native.Mathlib.Omega.{arith}
 use mathlib.Core.Path.{_≡_, refl, sym, ap, _∙_}
-use mathlib.Core.List.{List, [], _∷_}
-use mathlib.Core.Bool.{Bool, true, false, _&&_}
+use mathlib.Core.List.{List, []}
+use mathlib.Core.Bool.{Bool, true, false}
 use lib.ListN.{length}
 use lib.Dec.{eqb, ltb}
 use borrow.Author.Tests.{eq-eqb, ne-eqb, lt-ltb, le-ltb}
 use Rattle.fields.specs.Choice.{pick}
 use Rattle.fields.specs.Field.{beAt}
 use Rattle.fields.proofs.FieldLaws.{pick-yes, pick-no}
-use Rattle.fields.proofs.TestLaws.{both-and}
+use Rattle.fields.proofs.TestLaws.{both-and, and-none}
 use Rattle.boxes.specs.Answer.{Answer, ok, refuse, check, _>>=_, _>>_}
 use Rattle.boxes.specs.Types.{iden, grid, coded, derived}
 use Rattle.forms.specs.Form.{whole}
@@ -27,28 +27,15 @@ use Rattle.rules.specs.Joined.{locationOf, targetsOf}
 use Rattle.rules.specs.Derivations.{nothingIn, allImages, bodyOf, copyOf, tilesOf, layersOf, recipeFor, asRule17, recipeOf}
 use Rattle.rules.specs.Rules.{rule17}
 use Rattle.views.specs.Told.{faultOf}
+use Rattle.rules.proofs.DerivationLaws.{nothing-none, nothing-some}
 use Rattle.derived.specs.Told.{bodyOr, toldBy, toldRecipe}
 use Rattle.derived.specs.declared.RecipeRead.{RecipeRead}
 use Rattle.derived.specs.declared.RecipeRead.the-variants as read
-
--- nothingIn
-pub nothing-none : {A : Type 0} (l : List A) → length l ≡ 0 → nothingIn l ≡ true
-nothing-none [] e = refl
-nothing-none (x ∷ xs) e = absurd (omega arith)
-
-pub nothing-some : {A : Type 0} (l : List A) → (length l ≡ 0 → ⊥) → nothingIn l ≡ false
-nothing-some [] n = absurd (n refl)
-nothing-some (x ∷ xs) n = refl
 
 -- toldRecipe
 told-refused : (m : Answer Recipe) → Refused m → toldRecipe m ≡ read.Wrong
 unfolding toldRecipe
 told-refused m r = ap toldRecipe (r .2)
-
--- _&&_
-none-and : (a b : Bool) → b ≡ false → (a && b) ≡ false
-none-and true b e = e
-none-and false b e = refl
 
 -- toldRecipe of what a check guards
 checked-yes : (n p : ℕ) (t : Bool) (m : Answer Recipe) → t ≡ true → toldRecipe (check n p t >> m) ≡ toldRecipe m
@@ -131,7 +118,7 @@ module _ (total : ℕ) (head : List ℕ) (f : File) (item : Item) (n : ℕ) (cou
 
     pub copy-extents : (k ≡ 0 → ⊥) → read.Wrong ≡ toldRecipe (copyOf total head f item)
     unfolding copyOf
-    copy-extents z = sym (checked-no 17 (item .id) _ (ok Copy) (none-and (eqb (length (targetsOf f (item .id))) 1) _ (nothing-some (locationOf f (item .id) .extents) (λ q. z (extents ∙ q)))))
+    copy-extents z = sym (checked-no 17 (item .id) _ (ok Copy) (and-none (eqb (length (targetsOf f (item .id))) 1) _ (nothing-some (locationOf f (item .id) .extents) (λ q. z (extents ∙ q)))))
 
   pub copy-inputs : (n ≡ 1 → ⊥) → read.Wrong ≡ toldRecipe (copyOf total head f item)
   unfolding copyOf

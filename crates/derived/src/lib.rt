@@ -1,7 +1,7 @@
 // Refusal 17: the inputs of a derived item, each target's row found once, and its body.
 ghost use mathlib.Core.Path.{_≡_};
 ghost use mathlib.Core.List.{List};
-ghost use Prim.Native.Nat.{ℕ, _<_};
+ghost use Prim.Native.Nat.{ℕ, _≤_, _<_};
 ghost use lib.ListN.{length, getD};
 ghost use mathlib.Core.Bool.{false};
 ghost use Rattle.boxes.specs.Answer.{ok};
@@ -35,14 +35,14 @@ fn row_or_end(table: &[u32], id: ItemId, hope: ItemRow) -> u32
     }
 }
 
-// For each target of the table, in its order, the row that it names.
-pub fn resolve(table: &[u32]) -> [u32; 2048]
-    ensures { λ rows. ⌜ ((head : List ℕ) (pl : Places) (f : File) → TableOf (now (table .entry)) head pl f → Resolved (now (table .entry)) rows f) ⌝ }
+// For each target of the table, in its order, the row that it names, into a lent list.
+pub fn resolve(table: &[u32], rows: &mut [u32])
+    requires { ⌜ 2048 ≤ length (now rows) ⌝ }
+    ensures { λ _. ⌜ ((head : List ℕ) (pl : Places) (f : File) → TableOf (now (table .entry)) head pl f → Resolved (now (table .entry)) (now (rows .exit)) f) ⌝ }
 {
     let n = table::word(table, 3) as usize;
-    let mut rows = [0u32; 2048];
     if 2048 < n {
-        return rows;
+        return;
     }
     let mut row: u32 = 0;
     let mut k: usize = 0;
@@ -55,7 +55,6 @@ pub fn resolve(table: &[u32]) -> [u32; 2048]
         rows[k] = row;
         k += 1;
     }
-    rows
 }
 
 // The row of the input with a number from 0.

@@ -17,12 +17,13 @@ use Rattle.records.specs.Raw.{unread, rawOf}
 use Rattle.records.specs.Rows.{idAt, idsIn}
 use Rattle.records.specs.Stage.{Kept, withItems}
 use Rattle.records.proofs.RawLaws.{raw-item}
+use Rattle.items.specs.declared.Bounds.{Bounds}
 use Rattle.items.specs.declared.Info.{Info}
 use Rattle.items.specs.declared.NextItem.{NextItem}
 use Rattle.items.specs.declared.NextItem.the-variants as next
 use Rattle.items.specs.declared.ItemsRead.{ItemsRead}
 use Rattle.items.specs.declared.ItemsRead.the-variants as read
-use Rattle.items.specs.Told.{toldItems, itemOf, NextIs, rowPut, Stored}
+use Rattle.items.specs.Told.{toldItems, itemOf, NextIs, Between, rowPut, Stored}
 use Rattle.items.proofs.TableLaws.{put-kept, put-below, put-id, put-ids}
 use Rattle.items.proofs.StepLaws.{exactlyFrom, exactly-end, exactly-left}
 
@@ -45,20 +46,20 @@ module _ (s : List ℕ) (from n place base : ℕ) (t₀ : List ℕ) where
   answer = exactly infe-step place n (base + from) [] (drop from s)
 
   -- what the loop keeps: i items, read from the boxes before `at`, are in the first i rows
-  pub record So (t : List ℕ) (at above i : ℕ) : Type 0 where
+  pub record So (t : List ℕ) (at : ℕ) (b : Bounds) (i : ℕ) : Type 0 where
     pub items : List Item
     pub count : length items ≡ i
     pub few : i ≤ n
     pub here : at ≤ length s
     pub same : answer ≡ exactlyFrom infe-step place base s (n - i) at items
-    pub below : (k : ℕ) → k < i → idAt t k < above
+    pub within : (k : ℕ) → k < i → Between b (idAt t k)
     pub ids : idsIn t i ≡ idsOf items
     pub kept : Kept t₀ t
     pub told : (pl : Places) (x : List ℕ) → t₀ ≡ rawOf [] pl unread ++ x → t ≡ rawOf [] pl (withItems items) ++ x
 
-  pub begin : from ≤ length s → So t₀ from 0 0
+  pub begin : (b : Bounds) → from ≤ length s → So t₀ from b 0
   unfolding idsIn
-  begin h =
+  begin b h =
       let e : n ≡ n - 0 = omega arith in
       record {
         items = [];
@@ -66,7 +67,7 @@ module _ (s : List ℕ) (from n place base : ℕ) (t₀ : List ℕ) where
         few = omega arith;
         here = h;
         same = ap (λ (k : ℕ). exactlyFrom infe-step place base s k from []) e;
-        below = λ k l. absurd (omega arith);
+        within = λ k l. absurd (omega arith);
         ids = refl;
         kept = record { same-length = refl; past = refl };
         told = λ pl x e. e;
@@ -76,7 +77,7 @@ module _ (s : List ℕ) (from n place base : ℕ) (t₀ : List ℕ) where
   abbrev pub Tells : ItemsRead → List ℕ → Type 0
   Tells r t = (r ≡ toldItems answer) × Stored answer t₀ t
 
-  module _ (t : List ℕ) (at above i : ℕ) (so : So t at above i) where
+  module _ (t : List ℕ) (at : ℕ) (b : Bounds) (i : ℕ) (so : So t at b i) where
     tells-refused : (m q : ℕ) → answer ≡ refuse m q → Tells (read.Refused (record { number = m; place = q })) t
     unfolding toldItems
     tells-refused m q e = (sym (ap toldItems e), stored-refused answer t₀ t (so .kept) m q e)
@@ -110,8 +111,8 @@ module _ (s : List ℕ) (from n place base : ℕ) (t₀ : List ℕ) where
         is-next : NextIs s at place base (so .items) (next.Is j end)
         is-next = subst (NextIs s at place base (so .items)) e (f (so .items) (so .ids))
 
-        pub stored : (u : List ℕ) (up : ℕ) → u ≡ rowPut t i (itemOf j) → above ≤ up → j .id .0 + 1 ≤ up → So u end up (i + 1)
-        stored u up eu a b =
+        pub stored : (u : List ℕ) (c : Bounds) → u ≡ rowPut t i (itemOf j) → (c .least ≤ b .least) × (c .least ≤ j .id .0) × (b .above ≤ c .above) × (j .id .0 < c .above) → So u end c (i + 1)
+        stored u c eu w =
             let g = is-next in
             let fits : 16 + 16 * i < length t = omega (arith, so .kept .same-length) in
             record {
@@ -120,10 +121,10 @@ module _ (s : List ℕ) (from n place base : ℕ) (t₀ : List ℕ) where
               few = omega arith;
               here = g .1;
               same = more ∙ g .2 (n - (i + 1));
-              below = λ k l.
+              within = λ k l.
                   ⊎-elim
-                  (λ q. let z : idAt u k ≡ j .id .0 = ap (λ (v : ℕ). idAt u v) q ∙ ap (λ (v : List ℕ). idAt v i) eu ∙ put-id t i (itemOf j) fits in omega arith)
-                  (λ q. let z : idAt u k ≡ idAt t k = ap (λ (v : List ℕ). idAt v k) eu ∙ put-below t i (itemOf j) k q in omega (arith, so .below k q))
+                  (λ q. let z : idAt u k ≡ j .id .0 = ap (λ (v : ℕ). idAt u v) q ∙ ap (λ (v : List ℕ). idAt v i) eu ∙ put-id t i (itemOf j) fits in (omega arith, omega arith))
+                  (λ q. let z : idAt u k ≡ idAt t k = ap (λ (v : List ℕ). idAt v k) eu ∙ put-below t i (itemOf j) k q in let m = so .within k q in (omega arith, omega arith))
                   (eq-or-lt-of-le {n = k} {m = i} (omega arith));
               ids = ap (λ (v : List ℕ). idsIn v (i + 1)) eu ∙ ap (idsIn (rowPut t i (itemOf j))) (add-one i) ∙ put-ids t i (itemOf j) (so .items) fits (so .ids);
               kept = subst (Kept t₀) (sym eu) (put-kept t i (itemOf j) t₀ (omega arith) (so .kept));

@@ -11,7 +11,7 @@ use Rattle.boxes.specs.Box.{kindOf, bodyOf}
 use Rattle.boxes.specs.Header.{childAt}
 use Rattle.boxes.specs.declared.Refusal.{Refusal}
 use Rattle.boxes.specs.declared.Child.the-variants as child
-use Rattle.boxes.proofs.ContainLaws.{Stood, stood}
+use Rattle.boxes.proofs.ContainLaws.{Stood, stood, stood-body}
 use Rattle.forms.specs.Form.{front}
 use Rattle.contents.specs.Iinf.{Item, idsOf, infe-form, infe-step}
 use Rattle.items.specs.declared.Info.{Info}
@@ -19,7 +19,7 @@ use Rattle.items.specs.declared.InfeRead.{InfeRead}
 use Rattle.items.specs.declared.InfeRead.the-variants as read
 use Rattle.items.specs.declared.NextItem.the-variants as next
 use Rattle.items.specs.Told.{itemOf, toldInfe, InfeIs, NextIs}
-use Rattle.items.proofs.StepLaws.{stood-body, exactly-box, exactly-bad, exactly-spare, exactly-none}
+use Rattle.items.proofs.StepLaws.{exactly-box, exactly-bad, exactly-spare, exactly-none}
 
 -- toldInfe: what the code's value says of the answer
 infe-ok : (m : Answer Item) (i : Info) → toldInfe m ≡ read.Is i → m ≡ ok (itemOf i)

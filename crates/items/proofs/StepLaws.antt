@@ -1,38 +1,22 @@
 -- Exactly so many boxes, one box at a time, by the child that stands at a place: what a loop over counted boxes uses. Assumes nothing.
 use Prim.Native.Nat.{ℕ, suc, _+_, _-_, _≤_, _<_}
 use native.Mathlib.Omega.{arith}
-use mathlib.Core.Path.{_≡_, refl, sym, ap, _∙_, subst}
-use mathlib.Core.List.{List, [], _∷_, _++_}
+use mathlib.Core.Path.{_≡_, refl, ap, _∙_, subst}
+use mathlib.Core.List.{List, [], _∷_}
 use mathlib.Core.Bool.{Bool, false}
-use lib.ListN.{length, take, drop, length-drop, take-append-drop, drop-of-length-le}
-use lib.Seq.{drop-drop, length-take-le}
+use lib.ListN.{length, take, drop, length-drop, drop-of-length-le}
+use lib.Seq.{drop-drop}
 use lib.Dec.{ltb}
 use borrow.Author.Tests.{eqb-true, ltb-true, ltb-false, lt-ltb, le-ltb}
 use Rattle.fields.specs.Choice.{pick}
 use Rattle.fields.proofs.FieldLaws.{both}
 use Rattle.boxes.specs.Answer.{Answer, ok, refuse, _>>=_}
-use Rattle.boxes.specs.Box.{headOf, sizeOf, bodyOf, starts}
+use Rattle.boxes.specs.Box.{sizeOf, starts}
 use Rattle.boxes.specs.Exactly.{ended, oneBy, exactly}
 use Rattle.boxes.specs.Header.{childAt}
 use Rattle.boxes.specs.declared.Child.{Child}
 use Rattle.boxes.specs.declared.Child.the-variants as child
 use Rattle.boxes.proofs.ContainLaws.{Stood}
-use Rattle.boxes.proofs.WhereLaws.{body-part}
-
--- the content of the child at a place, as a part of the content it is in
-pub stood-body : (s : List ℕ) (at kind body end : ℕ) → Stood s at kind body end → take (end - body) (drop body s) ≡ bodyOf (take (end - at) (drop at s))
-stood-body s at kind body end w =
-    let pre = take at s in
-    let b = take (end - at) (drop at s) in
-    let post = drop (end - at) (drop at s) in
-    let l : length pre ≡ at = length-take-le at s (omega (arith, w .order, w .inside)) in
-    let i : length b - headOf b ≡ end - body = omega (arith, w .its-body, w .its-end) in
-    let j : length pre + headOf b ≡ body = omega (arith, w .its-body) in
-    let k : pre ++ (b ++ post) ≡ s = ap (λ (r : List ℕ). pre ++ r) (take-append-drop (end - at) (drop at s)) ∙ take-append-drop at s in
-    sym (ap (λ (n : ℕ). take n (drop body s)) i)
-    ∙ sym (ap (λ (n : ℕ). take (length b - headOf b) (drop n s)) j)
-    ∙ sym (ap (λ (r : List ℕ). take (length b - headOf b) (drop (length pre + headOf b) r)) k)
-    ∙ body-part pre b post (w .box .header)
 
 -- exactly, from a place of the content s, which begins at `base`
 module _ {S : Type 0} (f : ℕ → S → List ℕ → Answer S) (p base : ℕ) (s : List ℕ) where

@@ -1,63 +1,27 @@
 -- The IDs in the rows of a table: whether one is taken, and what one more record changes. Assumes nothing.
-use Prim.Native.Nat.{ℕ, zero, suc, _+_, _*_, _≤_, _<_}
-use native.Mathlib.Nat.{not-suc-le-zero, eq-or-lt-of-le}
+use Prim.Native.Nat.{ℕ, suc, _+_, _*_, _≤_, _<_}
 use native.Mathlib.Omega.{arith}
-use mathlib.Core.Path.{_≡_, refl, sym, ap, _∙_, subst}
+use mathlib.Core.Path.{_≡_, sym, _∙_}
 use mathlib.Core.List.{List, [], _∷_, _++_, map-append}
-use mathlib.Core.Bool.{true, false}
-use mathlib.Core.Logic.{⊎-elim}
-use lib.ListN.{length, getD, drop, set, length-append, length-set, List·getD-append}
+use mathlib.Core.Bool.{false}
+use lib.ListN.{length, getD, drop, set, length-set}
 use lib.Seq.{getD-set-same, getD-set-other, drop-set-lt}
 use Rattle.fields.specs.Lists.{member}
 use Rattle.contents.specs.Iinf.{Item, idsOf}
-use Rattle.table.specs.declared.ItemRow.{ItemRow}
-use Rattle.records.specs.Rows.{idAt, idsIn, FoundIs}
-use Rattle.records.specs.declared.FoundRow.{FoundRow}
-use Rattle.records.specs.declared.FoundRow.the-variants.{At, Nothing}
+use Rattle.records.specs.Rows.{idAt, idsIn}
 use Rattle.records.specs.Stage.{Kept}
-use Rattle.records.proofs.MemberLaws.{member-at, member-none}
-use Rattle.records.proofs.SetsLaws.{getD-from}
+use Rattle.records.proofs.IdLaws.{ids-same, row-missing}
+use Rattle.items.specs.declared.Bounds.{Bounds}
 use Rattle.items.specs.Told.{Filling, rowPut}
 
--- idsIn
-module _ (t : List ℕ) where
-  pub ids-length : (n : ℕ) → length (idsIn t n) ≡ n
-  unfolding idsIn
-  ids-length zero = refl
-  ids-length (suc n) = rw (length-append, ids-length n) (omega arith)
-
-  pub ids-at : (n k : ℕ) → k < n → getD (idsIn t n) k 0 ≡ idAt t k
-  unfolding idsIn
-  ids-at zero k h = absurd (not-suc-le-zero h)
-  ids-at (suc n) k h =
-      ⊎-elim
-      (λ e. getD-from (idsIn t n) (idAt t n ∷ []) n 0 k (ids-length n) (omega arith) ∙ ap (idAt t) (sym e))
-      (λ l. List·getD-append (idsIn t n) (idAt t n ∷ []) 0 k (rw (ids-length n) l) ∙ ids-at n k l)
-      (eq-or-lt-of-le {n = k} {m = n} (omega arith))
-
-  pub ids-same : (u : List ℕ) (n : ℕ) → ((k : ℕ) → k < n → idAt u k ≡ idAt t k) → idsIn u n ≡ idsIn t n
-  unfolding idsIn
-  ids-same u zero h = refl
-  ids-same u (suc n) h = rw (ids-same u n (λ k l. h k (omega arith)), h n (omega arith))
-
--- member of idsIn, by what the lookup says
+-- an ID above or below all of them is new
 module _ (t : List ℕ) (n id : ℕ) where
-  pub taken-none : ((k : ℕ) → k < n → idAt t k ≡ id → ⊥) → member id (idsIn t n) ≡ false
-  taken-none h =
-      let e = ids-length t n in
-      member-none id (idsIn t n) (λ k l q. let m : k < n = omega arith in h k m (sym (ids-at t n k m) ∙ q))
+  module _ (b : Bounds) (f : Filling t n b) where
+    pub taken-high : b .above ≤ id → member id (idsIn t n) ≡ false
+    taken-high h = row-missing t n id (λ k l q. omega (arith, f .within k l .1))
 
-  pub taken-low : (above : ℕ) → Filling t n above → above ≤ id → member id (idsIn t n) ≡ false
-  taken-low above f h = taken-none (λ k l q. omega (arith, f .below k l))
-
-  pub taken-found : (x : FoundRow) (r : ItemRow) → FoundIs t n id x → x ≡ At r → member id (idsIn t n) ≡ true
-  taken-found x r f e =
-      let g : FoundIs t n id (At r) = subst (FoundIs t n id) e f in
-      let l = ids-length t n in
-      member-at id (idsIn t n) (r .0) (omega arith) (ids-at t n (r .0) (g .0) ∙ g .1)
-
-  pub taken-nothing : (x : FoundRow) → FoundIs t n id x → x ≡ Nothing → member id (idsIn t n) ≡ false
-  taken-nothing x f e = taken-none (subst (FoundIs t n id) e f)
+    pub taken-low : id < b .least → member id (idsIn t n) ≡ false
+    taken-low h = row-missing t n id (λ k l q. omega (arith, f .within k l .0))
 
 -- rowPut
 module _ (t : List ℕ) (r : ℕ) (i : Item) where

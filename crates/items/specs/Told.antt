@@ -6,7 +6,7 @@
 --   InfeIs ids s p r  r is what the content s of an `infe` at p says, where ids are the IDs of the items before it
 --   CountIs s p r     r is what the front of the content s of an `iinf` at p says
 --   NextIs ..         r is what the next box of an `iinf` says
---   Filling t n k     a table with records in n rows, whose IDs are all below k
+--   Filling t n b     a table with records in n rows, whose IDs all lie in the bounds b
 --   rowPut t r i      a table after an item's words went into row r
 --   Stored a t u      the table t, all 0, became that of the items of the answer a
 use Prim.Native.Nat.{ℕ, suc, _+_, _*_, _≤_, _<_}
@@ -21,6 +21,7 @@ use Rattle.rules.specs.Places.{Places}
 use Rattle.records.specs.Raw.{unread, rawOf}
 use Rattle.records.specs.Rows.{idAt}
 use Rattle.records.specs.Stage.{Kept, withItems}
+use Rattle.items.specs.declared.Bounds.{Bounds}
 use Rattle.items.specs.declared.Info.{Info}
 use Rattle.items.specs.declared.InfeRead.{InfeRead}
 use Rattle.items.specs.declared.InfeRead.the-variants as infe
@@ -63,10 +64,13 @@ NextIs s at p base before (next.Is i end) =
 NextIs s at p base before (next.Refused r) = (n : ℕ) → exactly infe-step p (suc n) (base + at) before (drop at s) ≡ refuse (r .number) (r .place)
 
 -- the table
-pub record Filling (t : List ℕ) (n above : ℕ) : Type 0 where
+abbrev pub Between : Bounds → ℕ → Type 0
+Between b id = (b .least ≤ id) × (id < b .above)
+
+pub record Filling (t : List ℕ) (n : ℕ) (b : Bounds) : Type 0 where
   pub room : 11280 ≤ length t
   pub few : n ≤ 256
-  pub below : (k : ℕ) → k < n → idAt t k < above
+  pub within : (k : ℕ) → k < n → Between b (idAt t k)
 
 unfoldable pub rowPut : List ℕ → ℕ → Item → List ℕ
 rowPut t r i = set (set (set (set t (16 + 16 * r) (i .id)) (16 + 16 * r + 1) (i .type)) (16 + 16 * r + 2) (i .hidden)) (16 + 16 * r + 12) (i .protection)

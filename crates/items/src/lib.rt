@@ -34,13 +34,22 @@ pub enum InfeRead {
     Refused(Refusal),
 }
 
-// Whether an ID is that of one of the first n rows, all of whose IDs are below `above`: most writers' IDs rise, and then no row is looked at.
-fn is_taken(table: &[u32], n: usize, id: ItemId, above: u64) -> bool
-    requires { ⌜ Filling (now table) n above ⌝ }
+// The IDs of the rows that are filled: none is under `least`, and all are under `above`.
+pub struct Bounds {
+    pub least: u64,
+    pub above: u64,
+}
+
+// Whether an ID is that of one of the first n rows, all of whose IDs lie in bounds: most writers' IDs rise, some writers' fall, and then no row is looked at.
+fn is_taken(table: &[u32], n: usize, id: ItemId, bounds: Bounds) -> bool
+    requires { ⌜ Filling (now table) n bounds ⌝ }
     ensures { λ r. ⌜ r ≡ member (id .0) (idsIn (now (table .entry)) n) ⌝ }
 {
-    let x = id.0;
-    if above <= x as u64 {
+    let x = id.0 as u64;
+    if bounds.above <= x {
+        return false;
+    }
+    if x < bounds.least {
         return false;
     }
     let f = records::row_of(table, n, id, ItemRow(0));
@@ -58,16 +67,16 @@ fn read_info(
     place: u64,
     table: &[u32],
     n: usize,
-    above: u64,
+    bounds: Bounds,
 ) -> InfeRead
-    requires { ⌜ (4 ≤ length (now s)) × ((w ≡ 2) ⊎ (w ≡ 4)) × Filling (now table) n above ⌝ }
+    requires { ⌜ (4 ≤ length (now s)) × ((w ≡ 2) ⊎ (w ≡ 4)) × Filling (now table) n bounds ⌝ }
     ensures { λ r. ⌜ ((v : ℕ) → full (between 2 3) .read place (now (s .entry)) ≡ got (record { version = v; flags = flags }) (drop 4 (now (s .entry))) → pick (eqb v 2) 2 4 ≡ w → InfeIs (idsIn (now (table .entry)) n) (now (s .entry)) place r) ⌝ }
 {
     if s.len() < 4 + w {
         return InfeRead::Refused(Refusal { number: 8, place });
     }
     let id = ItemId(fields::be_id(s, 4, w));
-    if is_taken(table, n, id, above) {
+    if is_taken(table, n, id, bounds) {
         return InfeRead::Refused(Refusal { number: 10, place });
     }
     if s.len() < 10 + w {
@@ -82,8 +91,8 @@ fn read_info(
 }
 
 // The content of an `infe` at a place.
-fn read_infe(s: &[u8], place: u64, table: &[u32], n: usize, above: u64) -> InfeRead
-    requires { ⌜ Filling (now table) n above ⌝ }
+fn read_infe(s: &[u8], place: u64, table: &[u32], n: usize, bounds: Bounds) -> InfeRead
+    requires { ⌜ Filling (now table) n bounds ⌝ }
     ensures { λ r. ⌜ InfeIs (idsIn (now (table .entry)) n) (now (s .entry)) place r ⌝ }
 {
     let h = contents::read_full(s, 2, 3, place);
@@ -91,9 +100,9 @@ fn read_infe(s: &[u8], place: u64, table: &[u32], n: usize, above: u64) -> InfeR
         FullRead::Refused(r) => InfeRead::Refused(r),
         FullRead::Is { version, flags } => {
             if version == 2 {
-                return read_info(s, 2, flags, place, table, n, above);
+                return read_info(s, 2, flags, place, table, n, bounds);
             }
-            read_info(s, 4, flags, place, table, n, above)
+            read_info(s, 4, flags, place, table, n, bounds)
         }
     }
 }
@@ -115,9 +124,9 @@ fn next_item(
     base: u64,
     table: &[u32],
     n: usize,
-    above: u64,
+    bounds: Bounds,
 ) -> NextItem
-    requires { ⌜ (base + length (now s) < 18446744073709551616) × (at ≤ length (now s)) × Filling (now table) n above ⌝ }
+    requires { ⌜ (base + length (now s) < 18446744073709551616) × (at ≤ length (now s)) × Filling (now table) n bounds ⌝ }
     ensures { λ r. ⌜ ((before : List Item) → idsIn (now (table .entry)) n ≡ idsOf before → NextIs (now (s .entry)) at place base before r) ⌝ }
 {
     let c = boxes::child_at(s, at);
@@ -130,7 +139,7 @@ fn next_item(
                     place: here,
                 });
             }
-            let r = read_infe(&s[body..end], here, table, n, above);
+            let r = read_infe(&s[body..end], here, table, n, bounds);
             match r {
                 InfeRead::Is(info) => NextItem::Is { info, end },
                 InfeRead::Refused(f) => NextItem::Refused(f),
@@ -163,6 +172,23 @@ fn larger(a: u64, b: u64) -> u64
     ensures { λ r. ⌜ (a ≤ r) × (b ≤ r) ⌝ }
 {
     if a < b { b } else { a }
+}
+
+// The smaller of two numbers.
+fn smaller(a: u64, b: u64) -> u64
+    ensures { λ r. ⌜ (r ≤ a) × (r ≤ b) ⌝ }
+{
+    if a < b { a } else { b }
+}
+
+// Bounds of the same IDs and one more.
+fn widened(bounds: Bounds, id: ItemId) -> Bounds
+    ensures { λ r. ⌜ (r .least ≤ bounds .least) × (r .least ≤ id .0) × (bounds .above ≤ r .above) × (id .0 < r .above) ⌝ }
+{
+    let x = id.0 as u64;
+    let least = smaller(bounds.least, x);
+    let above = larger(bounds.above, x + 1);
+    Bounds { least, above }
 }
 
 pub enum ItemsRead {
@@ -223,19 +249,22 @@ fn fill_items(
     ensures { λ _. ⌜ Stored (exactly infe-step place n (base + from) [] (drop from (now (s .entry)))) (now (table .entry)) (now (table .exit)) ⌝ }
 {
     let mut at = from;
-    let mut above: u64 = 0;
+    // The bounds of no ID: each lies out of them.
+    let mut bounds = Bounds {
+        least: 0x100000000,
+        above: 0,
+    };
     let mut i: usize = 0;
     while i < n {
-        let t = next_item(s, at, place, base, &*table, i, above);
+        let t = next_item(s, at, place, base, &*table, i, bounds);
         match t {
             NextItem::Refused(r) => {
                 return ItemsRead::Refused(r);
             }
             NextItem::Is { info, end } => {
                 let id = info.id;
-                let x = id.0;
                 put_item(table, ItemRow(i), info);
-                above = larger(above, (x as u64) + 1);
+                bounds = widened(bounds, id);
                 at = end;
                 i += 1;
             }

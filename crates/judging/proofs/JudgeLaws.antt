@@ -20,12 +20,12 @@ use Rattle.rules.specs.Rules.{goodPrimary, rule12, judged}
 use Rattle.rules.specs.Words.{headWords, wordsOf}
 use Rattle.records.specs.Raw.{Bounded, rawOf}
 use Rattle.views.specs.View.{TableOf, AllPlaced, AllFed}
-use Rattle.views.proofs.BoundLaws.{read-bounds}
 use Rattle.views.proofs.ViewLaws.{read-view, raw-judging, placed-view}
 use Rattle.views.proofs.FillLaws.{filledTo, filled-none, filled-all, filled-length, filled-target, words-sized}
 use Rattle.depths.specs.Inputs.{InputsAre}
 use Rattle.derived.specs.Told.{Resolved}
 use Rattle.sizing.specs.Drawn.{Drawn}
+use Rattle.records.proofs.BoundLaws.{read-bounds}
 use Rattle.judging.specs.Order.{ruleBy, itemsJudged, picturesJudged, Early, toldJudged, Read, JudgedBy}
 use Rattle.judging.specs.declared.Judged.{Judged}
 use Rattle.judging.specs.declared.Judged.the-variants.{Good, Refused}

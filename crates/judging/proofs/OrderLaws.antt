@@ -1,20 +1,20 @@
 -- A rule for each item in table order, item by item. Assumes nothing.
 --   Blames id m    what m refuses is at the item with the ID id, by a number that is not 0
-use Prim.Native.Nat.{ℕ, zero, suc, _+_, _<_, _≤_}
-use native.Mathlib.Nat.{not-suc-le-zero, le-of-suc-le-suc}
+use Prim.Native.Nat.{ℕ, _+_, _<_, _≤_}
 use native.Mathlib.Numerals.{add-one}
 use native.Mathlib.Omega.{arith}
 use mathlib.Core.Path.{_≡_, refl, sym, ap, _∙_, subst}
-use mathlib.Core.List.{List, [], _∷_}
+use mathlib.Core.List.{List}
 use mathlib.Core.Bool.{Bool, true, false}
-use lib.ListN.{length, getD, drop, drop-of-length-le}
+use lib.Seq.{drop-cons}
+use lib.ListN.{length, drop, drop-of-length-le}
 use Rattle.fields.proofs.FieldLaws.{both}
 use Rattle.boxes.specs.Answer.{Answer, ok, refuse, check, _>>=_, _>>_}
 use Rattle.contents.specs.Iinf.{Item}
 use Rattle.contents.specs.File.{File}
 use Rattle.pictures.specs.Recipe.{Recipe}
 use Rattle.rules.specs.Joined.{noItem, itemAt}
-use Rattle.rules.specs.Derivations.{asRule17, recipeOf}
+use Rattle.rules.specs.Derivations.{asRule17}
 use Rattle.rules.specs.Rules.{inOrder, rule13-14, rule15-16, rule17, rule18, rule19, rule20}
 use Rattle.rules.specs.Places.{placesIn}
 use Rattle.views.specs.View.{TableOf}
@@ -22,7 +22,6 @@ use Rattle.views.specs.Told.{faultOf}
 use Rattle.judging.specs.Order.{ruleBy, Ready, toldJudged}
 use Rattle.judging.specs.declared.Rule.{Rule}
 use Rattle.judging.specs.declared.Rule.the-variants.{Placed, Declared, Derived, Itself, Deep, Sized}
-use Rattle.judging.specs.declared.Judged.{Judged}
 use Rattle.judging.specs.declared.Judged.the-variants.{Good, Refused}
 
 abbrev Blames : ℕ → Answer (Unit {0}) → Type 0
@@ -55,12 +54,6 @@ rule-blames Itself total head f r i = check-blames 18 _ _ (omega arith)
 rule-blames Deep total head f r i = check-blames 19 _ _ (omega arith)
 rule-blames (Sized d) total head f r i = both (Blames (i .id)) _ _ _ (λ e. check-blames 20 _ _ (omega arith)) (λ e. tt)
 
--- drop
-drop-next : {A : Type 0} (d : A) (l : List A) (k : ℕ) → k < length l → drop k l ≡ getD l k d ∷ drop (suc k) l
-drop-next d [] k h = absurd (not-suc-le-zero h)
-drop-next d (x ∷ l) zero h = refl
-drop-next d (x ∷ l) (suc k) h = drop-next d l k (le-of-suc-le-suc h)
-
 -- a number that is 0 is no fault, another is that of the item
 fault-none : (id : ℕ) (m : Answer (Unit {0})) → Blames id m → 0 ≡ faultOf m → m ≡ ok tt
 unfolding faultOf
@@ -79,7 +72,7 @@ module _ (rule : Rule) (total : ℕ) (head : List ℕ) (f : File) where
 
   from-next : (k : ℕ) → k < length (f .items) → from k ≡ (ruleBy rule total head f k (itemAt f k) >> from (k + 1))
   unfolding inOrder
-  from-next k h = rw add-one (ap (inOrder (ruleBy rule total head f) k) (drop-next noItem (f .items) k h))
+  from-next k h = rw add-one (ap (inOrder (ruleBy rule total head f) k) (drop-cons (f .items) k noItem h))
 
   pub order-end : (k : ℕ) → length (f .items) ≤ k → from 0 ≡ from k → Good ≡ toldJudged (from 0)
   unfolding inOrder toldJudged

@@ -1,46 +1,35 @@
 -- What the table with its resolved rows says of the scene, and rules 18 to 20 by its words. Assumes nothing.
-use Prim.Native.Nat.{ℕ, zero, suc, _+_, _*_, _<_, _≤_}
-use native.Mathlib.Nat.{not-suc-le-zero, le-of-suc-le-suc}
+use Prim.Native.Nat.{ℕ, suc, _+_, _*_, _<_, _≤_}
 use native.Mathlib.Omega.{arith}
-use mathlib.Core.Path.{_≡_, refl, sym, ap, _∙_, subst}
+use mathlib.Core.Path.{_≡_, refl, sym, ap, _∙_}
 use mathlib.Core.List.{List, [], _∷_, map}
-use mathlib.Core.Bool.{Bool, true, false, not, _&&_, _||_}
-use mathlib.Core.Logic.{⊎-elim}
-use lib.ListN.{length, getD, length-map, List·getD-map}
-use lib.Dec.{eqb, leb}
-use borrow.Author.Tests.{leb-true, le-leb, lt-leb, eq-eqb, eqb-true, ne-eqb}
+use mathlib.Core.Bool.{Bool, true, false, not, _||_}
+use lib.ListN.{length, getD, length-map}
+use borrow.Author.Tests.{le-leb, lt-leb, eq-eqb, ne-eqb}
 use Rattle.fields.specs.Lists.{All, member}
-use Rattle.fields.proofs.FieldLaws.{pick-yes, pick-no, both}
-use Rattle.fields.proofs.TestLaws.{untrue, both-and, or-either}
-use Rattle.boxes.specs.Answer.{Answer, ok, check}
+use Rattle.fields.proofs.FieldLaws.{pick-yes, pick-no}
+use Rattle.fields.proofs.TestLaws.{untrue, both-and, and-none}
+use Rattle.boxes.specs.Answer.{ok, check}
 use Rattle.boxes.specs.Types.{coded, derived, image}
 use Rattle.boxes.proofs.AnswerLaws.{bind-ok, then-ok, check-ok}
 use Rattle.contents.specs.Iinf.{Item, idsOf}
-use Rattle.contents.specs.Iref.{targetsIn}
 use Rattle.contents.specs.File.{File}
-use Rattle.pictures.specs.Recipe.{Recipe}
 use Rattle.pictures.specs.Scene.{Picture, Scene, pictureAt, goodSizes}
 use Rattle.pictures.specs.Depth.{derivesItself, depth}
 use Rattle.pictures.proofs.DepthLaws.{shallow-no-loop, itself-derives}
 use Rattle.rules.specs.Joined.{targetsOf, rowOf, itemAt}
 use Rattle.rules.specs.Places.{Places}
-use Rattle.rules.specs.Derivations.{nothingIn, recipeFor, asRule17, pictureOf, sceneOf}
+use Rattle.rules.specs.Derivations.{recipeFor, pictureOf, sceneOf}
 use Rattle.rules.specs.Rules.{rule17, rule18, rule19, rule20}
 use Rattle.rules.proofs.DerivationLaws.{nothing-in, rule-17-ok}
 use Rattle.rules.proofs.SceneLaws.{picture-at, inputs-at}
-use Rattle.records.specs.Rows.{Distinct}
-use Rattle.views.specs.View.{TableOf, SizesAre, AllFed, recordWord, idOf}
+use Rattle.views.specs.View.{TableOf, AllFed, recordWord, idOf}
 use Rattle.views.specs.Told.{faultOf}
 use Rattle.views.proofs.LookupLaws.{row-listed}
 use Rattle.depths.specs.Inputs.{InputsAre}
 use Rattle.derived.specs.Told.{Resolved}
 use Rattle.sizing.specs.Drawn.{Drawn}
-
--- map
-map-at : (g : ℕ → ℕ) (l : List ℕ) (j : ℕ) → j < length l → getD (map g l) j 0 ≡ g (getD l j 0)
-map-at g [] j h = absurd (not-suc-le-zero h)
-map-at g (x ∷ l) zero h = refl
-map-at g (x ∷ l) (suc j) h = map-at g l j (le-of-suc-le-suc h)
+use Rattle.fields.proofs.ListLaws.{map-at}
 
 all-map : (P : ℕ → Type 0) (g : ℕ → ℕ) (l : List ℕ) → ((j : ℕ) → j < length l → P (g (getD l j 0))) → All P (map g l)
 all-map P g [] h = tt
@@ -50,10 +39,6 @@ all-map P g (x ∷ l) h = (h 0 (omega arith), all-map P g l (λ j k. h (suc j) (
 abbrev pub faultBy : Bool → ℕ → ℕ
 faultBy true n = n
 faultBy false n = 0
-
-and-no : (a : Bool) {b : Bool} → b ≡ false → (a && b) ≡ false
-and-no true e = e
-and-no false e = refl
 
 -- image
 not-derived : (k : ℕ) → image k ≡ false → derived k ≡ false
@@ -122,18 +107,36 @@ module _ (total : ℕ) (head : List ℕ) (f : File) where
       first : (r : ℕ) → getD t (21 + 16 * r) 0 ≡ recordWord t r 5
       first r = ap (λ (k : ℕ). getD t k 0) (omega arith)
 
+  -- a picture that is at most 16 deep is not derived from itself
+  pub shallow-itself : (r : ℕ) → depth s r ≤ 16 → derivesItself s r ≡ false
+  shallow-itself r l = by (derivesItself s r) refl
+    where
+      by : (b : Bool) → derivesItself s r ≡ b → derivesItself s r ≡ false
+      by true e = absurd (shallow-no-loop s r l (itself-derives s r e))
+      by false e = e
+
+  -- rules 18 and 19, kept
+  pub itself-kept : (r : ℕ) (i : Item) → derivesItself s r ≡ false → rule18 s r i ≡ ok tt
+  unfolding rule18 check
+  itself-kept r i e = rw e
+
+  pub deep-kept : (r : ℕ) (i : Item) → depth s r ≤ 16 → rule19 s r i ≡ ok tt
+  unfolding rule19 check
+  deep-kept r i l = rw (le-leb (depth s r) 16 l)
+
+  -- rule 20 says nothing of a picture of another depth
+  pub other-depth : (r k : ℕ) (i : Item) → (depth s r ≡ k → ⊥) → rule20 s k r i ≡ ok tt
+  unfolding rule20
+  other-depth r k i n = pick-no _ _ (and-none (image (i .type)) _ (ne-eqb (depth s r) k n))
+
   -- rules 18 to 20
   module _ {t rows : List ℕ} (d : Drawn t rows head total f) (r : ℕ) (h : r < length (f .items)) where
-    deep-word : (w : ℕ) → w ≡ recordWord t r 14 → w ≡ depth s r
+    pub deep-word : (w : ℕ) → w ≡ recordWord t r 14 → w ≡ depth s r
     deep-word w e = e ∙ d .sizes .depths r (rw scene-long h)
 
     pub itself-shallow : (w : ℕ) → w ≡ recordWord t r 14 → w ≤ 16 → 0 ≡ faultOf (rule18 s r (itemAt f r))
-    unfolding rule18 check faultOf
-    itself-shallow w e l = by (derivesItself s r) refl
-      where
-        by : (b : Bool) → derivesItself s r ≡ b → 0 ≡ faultOf (check 18 (itemAt f r .id) (not (derivesItself s r)))
-        by true q = absurd (shallow-no-loop s r (omega (arith, deep-word w e)) (itself-derives s r q))
-        by false q = rw q
+    unfolding faultOf
+    itself-shallow w e l = ap faultOf (sym (itself-kept r (itemAt f r) (shallow-itself r (omega (arith, deep-word w e)))))
 
     pub itself-told : (b : Bool) → b ≡ derivesItself s r → faultBy b 18 ≡ faultOf (rule18 s r (itemAt f r))
     unfolding rule18 check faultOf
@@ -141,8 +144,8 @@ module _ (total : ℕ) (head : List ℕ) (f : File) where
     itself-told false e = rw (← e)
 
     pub deep-shallow : (w : ℕ) → w ≡ recordWord t r 14 → w ≤ 16 → 0 ≡ faultOf (rule19 s r (itemAt f r))
-    unfolding rule19 check faultOf
-    deep-shallow w e l = rw (le-leb (depth s r) 16 (omega (arith, deep-word w e)))
+    unfolding faultOf
+    deep-shallow w e l = ap faultOf (sym (deep-kept r (itemAt f r) (omega (arith, deep-word w e))))
 
     pub deep-over : (w : ℕ) → w ≡ recordWord t r 14 → 16 < w → 19 ≡ faultOf (rule19 s r (itemAt f r))
     unfolding rule19 check faultOf
@@ -150,8 +153,8 @@ module _ (total : ℕ) (head : List ℕ) (f : File) where
 
     -- of the depth that 20 is asked for, or not
     pub size-other : (w k : ℕ) → w ≡ recordWord t r 14 → (w ≡ k → ⊥) → 0 ≡ faultOf (rule20 s k r (itemAt f r))
-    unfolding rule20 faultOf
-    size-other w k e n = ap faultOf (sym (pick-no _ _ (and-no (image (itemAt f r .type)) (ne-eqb (depth s r) k (λ q. n (deep-word w e ∙ q))))))
+    unfolding faultOf
+    size-other w k e n = ap faultOf (sym (other-depth r k (itemAt f r) (λ q. n (deep-word w e ∙ q))))
 
     pub size-opaque : (k : ℕ) → false ≡ image (itemAt f r .type) → 0 ≡ faultOf (rule20 s k r (itemAt f r))
     unfolding rule20 faultOf

@@ -3,12 +3,13 @@
 --   itemsJudged, picturesJudged   13 to 17, and 18 to 20
 --   Read t head total f x         the table t is that of the file f as it was read, x lies behind it
 --   Early, Ready                  what is known when a rule is asked: before 17 the table as it was read, from 18 on the table with sizes
+--   NoneDeeper t w                no record of the table t has a depth over w
 --   toldJudged m                  the code's value
 --   JudgedBy ..                   what judging answers and leaves in the table
-use Prim.Native.Nat.{ℕ, _+_}
+use Prim.Native.Nat.{ℕ, _+_, _≤_, _<_}
 use mathlib.Core.Path.{_≡_}
 use mathlib.Core.List.{List, _++_}
-use lib.ListN.{length}
+use lib.ListN.{length, getD}
 use Rattle.boxes.specs.Answer.{Answer, ok, refuse, _>>_}
 use Rattle.contents.specs.Iinf.{Item}
 use Rattle.contents.specs.File.{File, readFile}
@@ -17,7 +18,7 @@ use Rattle.rules.specs.Derivations.{sceneOf}
 use Rattle.rules.specs.Rules.{inOrder, byDepth, rule13-14, rule15-16, rule17, rule18, rule19, rule20, judged}
 use Rattle.rules.specs.Words.{headWords, wordsOf}
 use Rattle.records.specs.Raw.{rawOf}
-use Rattle.views.specs.View.{TableOf, Judging, AllPlaced}
+use Rattle.views.specs.View.{TableOf, Judging, AllPlaced, recordWord}
 use Rattle.derived.specs.Told.{Resolved}
 use Rattle.sizing.specs.Drawn.{Drawn}
 use Rattle.judging.specs.declared.Rule.{Rule}
@@ -54,6 +55,9 @@ Ready Derived t rows head total idat f = Early t rows head total idat f × AllPl
 Ready Itself t rows head total idat f = Drawn t rows head total f
 Ready Deep t rows head total idat f = Drawn t rows head total f
 Ready (Sized d) t rows head total idat f = Drawn t rows head total f
+
+abbrev pub NoneDeeper : List ℕ → ℕ → Type 0
+NoneDeeper t w = (r : ℕ) → r < getD t 0 0 → r < 256 → recordWord t r 14 ≤ w
 
 unfoldable pub toldJudged : Answer (Unit {0}) → Judged
 toldJudged (ok u) = Good

@@ -1,7 +1,7 @@
 // Judging: refusals 12 to 20 in the order of document 01, and the sizes into the table.
 ghost use mathlib.Core.Path.{_≡_};
 ghost use mathlib.Core.List.{List};
-ghost use Prim.Native.Nat.{ℕ, _≤_, _<_};
+ghost use Prim.Native.Nat.{ℕ, _<_};
 ghost use lib.ListN.{length, drop};
 ghost use Rattle.contents.specs.Iinf.{Item};
 ghost use Rattle.contents.specs.File.{File};
@@ -10,7 +10,7 @@ ghost use Rattle.rules.specs.Derivations.{sceneOf};
 ghost use Rattle.rules.specs.Rules.{inOrder, rule18, rule19, rule20, byDepth};
 ghost use Rattle.views.specs.Told.{faultOf};
 ghost use Rattle.sizing.specs.Drawn.{Drawn};
-ghost use Rattle.judging.specs.Order.{ruleBy, itemsJudged, picturesJudged, Early, Ready, toldJudged, Read, JudgedBy};
+ghost use Rattle.judging.specs.Order.{ruleBy, itemsJudged, picturesJudged, Early, Ready, NoneDeeper, toldJudged, Read, JudgedBy};
 use boxes::Refusal;
 use table::ItemRow;
 
@@ -125,12 +125,40 @@ fn first_fault(
     Judged::Good
 }
 
-// 20, by rising depth.
-fn by_depth(head: &[u8], total: u64, table: &[u32], rows: &[u32], idat: usize) -> Judged
+// The largest depth that the table has.
+fn deepest_of(table: &[u32]) -> u32
+    ensures { λ d. ⌜ NoneDeeper (now (table .entry)) d ⌝ }
+{
+    let n = views::item_count(table);
+    let mut deepest: u32 = 0;
+    let mut r: usize = 0;
+    while r < n {
+        let d = views::record_word(table, ItemRow(r), 14);
+        if deepest < d {
+            deepest = d;
+        }
+        r += 1;
+    }
+    deepest
+}
+
+// 20, by rising depth as far as there is one.
+fn by_depth(
+    head: &[u8],
+    total: u64,
+    table: &[u32],
+    rows: &[u32],
+    idat: usize,
+    deepest: u32,
+) -> Judged
+    requires { ⌜ NoneDeeper (now table) deepest ⌝ }
     ensures { λ r. ⌜ ((f : File) → Drawn (now (table .entry)) (now (rows .entry)) (now (head .entry)) total f → r ≡ toldJudged (byDepth (sceneOf total (now (head .entry)) f) (f .items) 17 0)) ⌝ }
 {
     let mut depth: u32 = 0;
     while depth < 17 {
+        if deepest < depth {
+            return Judged::Good;
+        }
         let j = first_fault(head, total, table, rows, idat, Rule::Sized(depth));
         match j {
             Judged::Refused(f) => {
@@ -161,18 +189,35 @@ fn judge_items(head: &[u8], total: u64, table: &[u32], rows: &[u32], idat: usize
     }
 }
 
-// 18 to 20, on the table with sizes and depths.
+// 18 for every item. Where all rest on pictures without inputs no item is asked.
+fn judge_itself(head: &[u8], total: u64, table: &[u32], rows: &[u32], idat: usize) -> Judged
+    ensures { λ r. ⌜ ((f : File) → Drawn (now (table .entry)) (now (rows .entry)) (now (head .entry)) total f → r ≡ toldJudged (inOrder (ruleBy Rule.Itself total (now (head .entry)) f) 0 (f .items))) ⌝ }
+{
+    let n = views::item_count(table);
+    if n <= 256 {
+        if depths::all_grounded(table, rows, n) {
+            return Judged::Good;
+        }
+    }
+    first_fault(head, total, table, rows, idat, Rule::Itself)
+}
+
+// 18 to 20, on the table with sizes and depths. Where nothing lies over 16 deep, 18 and 19 refuse nothing.
 fn judge_pictures(head: &[u8], total: u64, table: &[u32], rows: &[u32], idat: usize) -> Judged
     ensures { λ r. ⌜ ((f : File) → Drawn (now (table .entry)) (now (rows .entry)) (now (head .entry)) total f → r ≡ toldJudged (picturesJudged total (now (head .entry)) f)) ⌝ }
 {
-    let i = first_fault(head, total, table, rows, idat, Rule::Itself);
+    let deepest = deepest_of(table);
+    if deepest <= 16 {
+        return by_depth(head, total, table, rows, idat, deepest);
+    }
+    let i = judge_itself(head, total, table, rows, idat);
     match i {
         Judged::Refused(f) => Judged::Refused(f),
         Judged::Good => {
             let d = first_fault(head, total, table, rows, idat, Rule::Deep);
             match d {
                 Judged::Refused(f) => Judged::Refused(f),
-                Judged::Good => by_depth(head, total, table, rows, idat),
+                Judged::Good => by_depth(head, total, table, rows, idat, deepest),
             }
         }
     }
@@ -190,7 +235,8 @@ pub fn judge(head: &[u8], total: u64, table: &mut [u32], idat: usize) -> Judged
             place: table::word(&*table, 5) as u64,
         });
     }
-    let rows = derived::resolve(&*table);
+    let mut rows = [0u32; 2048];
+    derived::resolve(&*table, &mut rows);
     let items = judge_items(head, total, &*table, &rows, idat);
     match items {
         Judged::Refused(f) => Judged::Refused(f),

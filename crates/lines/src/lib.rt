@@ -1,4 +1,4 @@
-// The lines of the listing program, for one file.
+// The lines of the listing program, for one file, and what other programs' lines share with them.
 ghost use mathlib.Core.Path.{_≡_};
 ghost use lib.ListN.{length};
 use boxes::Refusal;
@@ -6,17 +6,22 @@ use still::FileVerdict;
 use table::ItemId;
 use table::ItemRow;
 
-fn print_field(n: u64) {
+// A tab and a number.
+pub fn print_field(n: u64) {
     io::write_all(1, b"\t");
     io::print_decimal(1, n);
 }
 
 // `refused`, number, place.
-fn print_refusal(f: Refusal) {
+pub fn print_refused(number: u64, place: u64) {
     io::write_all(1, b"refused");
-    print_field(f.number as u64);
-    print_field(f.place);
+    print_field(number);
+    print_field(place);
     io::write_all(1, b"\n");
+}
+
+pub fn print_refusal(f: Refusal) {
+    print_refused(f.number as u64, f.place);
 }
 
 fn print_word(table: &[u32], row: ItemRow, k: usize) {

@@ -18,6 +18,7 @@ use Rattle.forms.specs.Form.{got, demand, field, many}
 use Rattle.forms.proofs.StepLaws.{reads, read-reads, reads-got, reads-refused, reads-bind, reads-field, reads-short, reads-yes, reads-no, reads-give, reads-none, reads-more}
 use Rattle.contents.specs.Iloc.{Extent, Location, locatedIn, extentsIn, extent-form}
 use Rattle.records.specs.Rows.{idAt, idsIn}
+use Rattle.records.proofs.IdLaws.{row-listed}
 use Rattle.locations.specs.declared.Widths.{Widths}
 use Rattle.locations.specs.declared.Rest.{Rest}
 use Rattle.locations.specs.declared.EntryRead.the-variants as entry
@@ -26,7 +27,6 @@ use Rattle.locations.specs.declared.EntryPut.the-variants as put
 use Rattle.locations.specs.declared.RowRead.the-variants as row
 use Rattle.locations.specs.declared.RestRead.the-variants as rest
 use Rattle.locations.specs.Parts.{Size, Sized, new-form, rest-form, Lead, lead-form, entry-by, each, extentAt, extentsAt, extentsBy, Located, RowHere, RowAre, RestHere, RestAre, EntryHere, EntryAre, StoredAre, PutAre}
-use Rattle.locations.proofs.TableLaws.{row-listed}
 
 -- a field of a chain that does not fit as a whole: it is cut, or what follows it is
 reads-cut : {B : Type 0} (p : ℕ) (s : List ℕ) (at n : ℕ) (k : ℕ → List ℕ → Answer B) → at ≤ length s → (at + n ≤ length s → k (beAt s at n) (drop (at + n) s) ≡ refuse 8 p)

@@ -20,20 +20,15 @@ use Rattle.records.specs.Rows.{idAt, idsIn, Distinct}
 use Rattle.records.specs.Stage.{Kept, Ready, withLocations}
 use Rattle.records.proofs.JoinLaws.{join-length}
 use Rattle.records.proofs.RawLaws.{raw-id, raw-location}
+use Rattle.records.proofs.IdLaws.{raw-ids}
+use Rattle.records.proofs.KeptLaws.{kept-same, kept-on}
 use Rattle.locations.specs.declared.Widths.{Widths}
 use Rattle.locations.specs.declared.LocationsRead.{LocationsRead}
 use Rattle.locations.specs.declared.EntryPut.the-variants as put
 use Rattle.locations.specs.Told.{toldLocations, Unplaced, LocationsLeft}
 use Rattle.locations.specs.Parts.{entry-by, rowFrom, startOf, Located, PutHere, PutAre, EntriesLeft}
-use Rattle.locations.proofs.TableLaws.{put-kept, put-ids, located-none, located-more, raw-ids}
+use Rattle.locations.proofs.TableLaws.{put-kept, put-ids, located-none, located-more}
 use Rattle.locations.proofs.PutLaws.{row-length, rows-raw}
-
--- Kept
-kept-none : (t : List ℕ) → Kept t t
-kept-none t = record { same-length = refl; past = refl }
-
-kept-more : (t u v : List ℕ) → Kept t u → Kept u v → Kept t v
-kept-more t u v a b = record { same-length = b .same-length ∙ a .same-length; past = b .past ∙ a .past }
 
 -- toldLocations
 pub told-same : (r : LocationsRead) (x y : Answer (List Location)) → x ≡ y → r ≡ toldLocations y → r ≡ toldLocations x
@@ -48,12 +43,12 @@ left-whole a s place n idat t u e h =
     record {
       kept = h .kept;
       told = λ pl f x ls q r z o g.
-          let i : idsIn t n ≡ idsOf (f .items) = rw (g, ← r .count) (raw-ids [] pl x (omega arith) f) in
+          let i : idsIn t n ≡ idsOf (f .items) = raw-ids pl f x t n (r .count) g in
           h .told pl f x ls q r z (sym e ∙ rw i o) g;
     }
 
 pub left-gone : (s : List ℕ) (place n idat : ℕ) (t : List ℕ) (k p : ℕ) → whole (iloc-form (idsIn t n)) place s ≡ refuse k p → LocationsLeft s place n idat t t
-left-gone s place n idat t k p e = left-whole (refuse k p) s place n idat t t e (left-refused (refuse k p) n idat t t k p (kept-none t) refl)
+left-gone s place n idat t k p e = left-whole (refuse k p) s place n idat t t e (left-refused (refuse k p) n idat t t k p (kept-same t) refl)
 
 -- withLocations
 none-located : (pl : Places) (f : File) (x : List ℕ) → f .locations ≡ [] → rawOf [] pl f ++ x ≡ rawOf [] pl (withLocations f []) ++ x
@@ -104,7 +99,7 @@ module _ (s : List ℕ) (from count : ℕ) (w : Widths) (p n idat : ℕ) (t₀ :
         within = omega arith;
         located = located-none t₀ n z;
         ids = refl;
-        kept = kept-none t₀;
+        kept = kept-same t₀;
         same = let e : count - 0 ≡ count = omega arith in rw e (whole-reads (many (entry-by (idsIn t₀ n) w) count []) p (drop from s));
         table = λ pl f x q r e g. g ∙ none-located pl f x e;
       }
@@ -139,7 +134,7 @@ module _ (s : List ℕ) (from count : ℕ) (w : Widths) (p n idat : ℕ) (t₀ :
             within = omega arith;
             located = rw (z .stored, ← e) (located-more t ws (4 * used) r _ _ _ _ n used (so .ls) l (so .located) (rw (so .ids) ds) few long-too below (z .id));
             ids = rw (z .stored) (put-ids t ws (4 * used) r _ _ _ _ n few ∙ so .ids);
-            kept = kept-more t₀ t u (so .kept) (rw (z .stored) (put-kept t ws (4 * used) r _ _ _ _ (omega arith) (omega arith)));
+            kept = kept-on t₀ t u (so .kept) (rw (z .stored) (put-kept t ws (4 * used) r _ _ _ _ (omega arith) (omega arith)));
             same = entry-next ∙ reads-got (entry-by (idsIn t₀ n) w (so .ls)) p (drop at s) _ l (drop end s) (rw (so .ids) at (z .read (so .ls) (so .located)));
             table = λ pl f x q rd o g. file-put t u n w used p s at idat end k r z (so .ls) (so .located) pl f x q rd (so .few) (so .table pl f x q rd o g);
           }

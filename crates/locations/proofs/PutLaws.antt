@@ -22,8 +22,6 @@ use Rattle.records.proofs.JoinLaws.{join-snoc, join-same, join-length}
 use Rattle.records.proofs.SetsLaws.{sets-append}
 use Rattle.locations.specs.declared.Widths.{Widths}
 use Rattle.locations.specs.declared.Rest.{Rest}
-use Rattle.locations.specs.declared.EntryPut.the-variants as put
-use Rattle.locations.specs.declared.EntryRead.the-variants as entry
 use Rattle.locations.specs.Parts.{each, extentAt, extentsAt, extentsBy, rowFrom, startOf, placeRow, StoredHere}
 use Rattle.locations.proofs.EntryLaws.{extents-count, extents-next}
 

@@ -1,14 +1,13 @@
--- The IDs of the first rows of a table, and which of them have an entry. Assumes nothing.
-use Prim.Native.Nat.{ℕ, zero, suc, _+_, _*_, _<_, _≤_}
-use native.Mathlib.Nat.{eq-or-lt-of-le}
+-- Which of the first rows of a table have an entry, and what one more entry changes. Assumes nothing.
+use Prim.Native.Nat.{ℕ, _+_, _*_, _<_, _≤_}
 use native.Mathlib.Decide.{decLe}
 use native.Mathlib.Omega.{arith}
 use mathlib.Core.Path.{_≡_, refl, sym, ap, _∙_, subst}
-use mathlib.Core.List.{List, [], _∷_, _++_, map-append}
+use mathlib.Core.List.{List, [], _∷_, _++_}
 use mathlib.Core.Bool.{Bool, true, false}
 use mathlib.Core.Logic.{_⊎_, inl, inr, ⊎-elim}
-use lib.ListN.{length, getD, set, drop, length-append, length-map, List·getD-append}
-use lib.Seq.{sets, length-sets, ext-getD, getD-at, drop-set-lt}
+use lib.ListN.{length, getD}
+use lib.Seq.{sets, length-sets}
 use lib.Dec.{eqb}
 use borrow.Author.Tests.{eqb-true, eqb-false}
 use Rattle.fields.specs.Choice.{pick}
@@ -17,7 +16,6 @@ use Rattle.fields.proofs.FieldLaws.{pick-yes}
 use Rattle.fields.proofs.TestLaws.{untrue}
 use Rattle.boxes.specs.Answer.{refuse}
 use Rattle.forms.proofs.StepLaws.{read-reads, reads-bind, reads-yes, reads-no}
-use Rattle.contents.specs.Iinf.{Item, idsOf}
 use Rattle.contents.specs.Iloc.{Location, locatedIn, extentsIn}
 use Rattle.contents.specs.File.{File}
 use Rattle.rules.specs.Places.{Places}
@@ -25,51 +23,24 @@ use Rattle.records.specs.Raw.{rawOf}
 use Rattle.records.specs.Rows.{idAt, idsIn, Distinct, FoundIs}
 use Rattle.records.specs.Stage.{Kept, Ready}
 use Rattle.records.specs.declared.FoundRow.the-variants.{At, Nothing}
-use Rattle.records.proofs.MemberLaws.{member-at, member-none, member-last, member-other, distinct-place}
-use Rattle.records.proofs.RawLaws.{raw-id, raw-located}
+use Rattle.records.proofs.MemberLaws.{member-last, member-other}
+use Rattle.records.proofs.RawLaws.{raw-located}
 use Rattle.records.proofs.SetsLaws.{sets-below, sets-above, sets-in}
 use Rattle.table.specs.declared.ItemRow.{ItemRow}
+use Rattle.contents.proofs.SumLaws.{extents-more, located-in}
+use Rattle.records.proofs.IdLaws.{ids-same, row-listed, row-missing, raw-ids, distinct-rows}
+use Rattle.records.proofs.KeptLaws.{kept-on, kept-sets}
 use Rattle.locations.specs.Told.{Unplaced}
 use Rattle.locations.specs.Parts.{Located, RowAre, new-form}
 use Rattle.locations.specs.declared.RowRead.the-variants as row
 
--- idsIn
-pub ids-length : (t : List ℕ) (n : ℕ) → length (idsIn t n) ≡ n
-unfolding idsIn
-ids-length t zero = refl
-ids-length t (suc n) = rw (length-append, ids-length t n) (omega arith)
-
-pub ids-at : (t : List ℕ) (n k : ℕ) → k < n → getD (idsIn t n) k 0 ≡ idAt t k
-unfolding idsIn
-ids-at t zero k h = absurd (omega arith)
-ids-at t (suc n) k h =
-    let l = ids-length t n in
-    ⊎-elim
-    (λ e. getD-at (idsIn t n) (idAt t n) [] 0 k (omega arith) ∙ ap (idAt t) (sym e))
-    (λ m. List·getD-append (idsIn t n) (idAt t n ∷ []) 0 k (omega arith) ∙ ids-at t n k m)
-    (eq-or-lt-of-le {n = k} {m = n} (omega arith))
-
-pub ids-same : (t u : List ℕ) (n : ℕ) → ((k : ℕ) → k < n → idAt u k ≡ idAt t k) → idsIn u n ≡ idsIn t n
-unfolding idsIn
-ids-same t u zero h = refl
-ids-same t u (suc n) h = rw (h n (omega arith), ids-same t u n (λ k l. h k (omega arith)))
-
--- the table of a file: its IDs, and that no item has an entry where the file has none
-module _ (hw : List ℕ) (pl : Places) (x : List ℕ) (small : length hw ≤ 16) (f : File) where
-  pub raw-ids : idsIn (rawOf hw pl f ++ x) (length (f .items)) ≡ idsOf (f .items)
-  raw-ids =
-      let t = rawOf hw pl f ++ x in
-      let n = length (f .items) in
-      let l = ids-length t n in
-      let m = length-map (f .items) (λ (i : Item). i .id) in
-      ext-getD 0 (idsIn t n) (idsOf (f .items)) (omega arith) (λ k h. ids-at t n k (omega arith) ∙ raw-id hw pl x small f k (omega arith))
-
+-- the table of a file that has no entry: no item has one
 pub raw-unplaced : (pl : Places) (x : List ℕ) (f : File) (n : ℕ) → Ready f n → f .locations ≡ [] → Unplaced (rawOf [] pl f ++ x) n
 unfolding pick
 raw-unplaced pl x f n r e =
     let c = r .count in
     record {
-      distinct = subst Distinct (sym (raw-ids [] pl x (omega arith) f) ∙ ap (idsIn (rawOf [] pl f ++ x)) (r .count)) (r .distinct);
+      distinct = subst Distinct (sym (raw-ids pl f x (rawOf [] pl f ++ x) n (r .count) refl)) (r .distinct);
       none = λ k h. raw-located [] pl x (omega arith) f k (omega arith) ∙ rw e;
     }
 
@@ -108,35 +79,17 @@ module _ (t : List ℕ) (n id p : ℕ) where
 
   pub row-unlisted : FoundIs t n id Nothing → RowAre t n id p (row.Refused (record { number = 11; place = p }))
   row-unlisted g used ls l x =
-      let z = ids-length t n in
-      let none = member-none id (idsIn t n) (λ k h q. g k (omega arith) (sym (ids-at t n k (omega arith)) ∙ q)) in
+      let none = row-missing t n id g in
       unlisted (idsIn t n) ls id p x (new (member id (locatedIn ls)) refl none) none
     where
       new : (b : Bool) → member id (locatedIn ls) ≡ b → member id (idsIn t n) ≡ false → member id (locatedIn ls) ≡ false
       new true e f = untrue (sym f ∙ l .listed id e)
       new false e f = e
 
-pub row-listed : (t : List ℕ) (n id r : ℕ) → r < n → idAt t r ≡ id → member id (idsIn t n) ≡ true
-row-listed t n id r h e = let z = ids-length t n in member-at id (idsIn t n) r (omega arith) (ids-at t n r h ∙ e)
-
 -- Located: no entry yet
 pub located-none : (t : List ℕ) (n : ℕ) → Unplaced t n → Located t n 0 []
 unfolding pick extentsIn
 located-none t n h = record { count = refl; flags = λ k l. h .none k l; listed = λ x e. untrue e }
-
--- extentsIn, locatedIn
-pub extents-more : (ls : List Location) (l : Location) → extentsIn (ls ++ (l ∷ [])) ≡ extentsIn ls + length (l .extents)
-unfolding extentsIn
-extents-more [] l = omega arith
-extents-more (m ∷ ls) l = rw (extents-more ls l) (omega arith)
-
-located-in : (ls : List Location) (l : Location) → locatedIn (ls ++ (l ∷ [])) ≡ locatedIn ls ++ (l .id ∷ [])
-located-in ls l = map-append (λ (m : Location). m .id) ls (l ∷ [])
-
--- sets: past a place
-pub drop-sets : (n : ℕ) (vs l : List ℕ) (i : ℕ) → i + length vs ≤ n → drop n (sets l i vs) ≡ drop n l
-drop-sets n [] l i h = refl
-drop-sets n (v ∷ vs) l i h = drop-sets n vs (set l i v) (suc i) (omega arith) ∙ drop-set-lt n l i v (omega arith)
 
 -- the table t with ws among the extents and five words in row r, where an entry of an item of that row is put
 module _ (t ws : List ℕ) (m r a b c d : ℕ) where
@@ -144,11 +97,7 @@ module _ (t ws : List ℕ) (m r a b c d : ℕ) where
   put = sets (sets t (9232 + m) ws) (16 + 16 * r + 7) (a ∷ b ∷ c ∷ d ∷ 1 ∷ [])
 
   pub put-kept : m + length ws ≤ 2048 → r < 256 → Kept t put
-  put-kept h l =
-      record {
-        same-length = rw (length-sets, length-sets);
-        past = drop-sets 11280 (a ∷ b ∷ c ∷ d ∷ 1 ∷ []) (sets t (9232 + m) ws) (16 + 16 * r + 7) (omega arith) ∙ drop-sets 11280 ws t (9232 + m) (omega arith);
-      }
+  put-kept h l = kept-on t _ put (kept-sets t (9232 + m) ws (omega arith)) (kept-sets (sets t (9232 + m) ws) (16 + 16 * r + 7) (a ∷ b ∷ c ∷ d ∷ 1 ∷ []) (omega arith))
 
   -- words that are not written
   apart : (i : ℕ) → i < 9232 → (i < 16 + 16 * r + 7) ⊎ (16 + 16 * r + 12 ≤ i) → getD put i 0 ≡ getD t i 0
@@ -187,8 +136,7 @@ module _ (t ws : List ℕ) (m r a b c d : ℕ) where
         (l .id)
         (locatedIn ls)
         (λ e.
-        let x = ids-length t n in
-        q (distinct-place (idsIn t n) k r ds (omega arith) (omega arith) (ids-at t n k z ∙ e ∙ sym same ∙ sym (ids-at t n r below)))))))
+        q (distinct-rows t n ds k r z below (e ∙ sym same))))))
         (same-or-not (eqb k r) refl))
       where
         same-or-not : (x : Bool) → eqb k r ≡ x → (k ≡ r) ⊎ (k ≡ r → ⊥)

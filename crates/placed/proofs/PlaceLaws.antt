@@ -2,33 +2,27 @@
 use Prim.Native.Nat.{ℕ, _+_, _≤_, _<_}
 use native.Mathlib.Omega.{arith}
 use mathlib.Core.Path.{_≡_, refl, sym, ap, _∙_, fun-ext}
-use mathlib.Core.List.{List, [], _∷_}
+use mathlib.Core.List.{List}
 use mathlib.Core.Bool.{Bool, true, false, _&&_, not}
 use lib.ListN.{length}
 use lib.Dec.{leb, eqb}
 use borrow.Author.Tests.{leb-true, leb-false, eqb-true, eqb-false, le-leb, lt-leb, eq-eqb, ne-eqb}
 use Rattle.fields.specs.Choice.{pick}
-use Rattle.fields.proofs.TestLaws.{untrue, and-both}
+use Rattle.fields.proofs.TestLaws.{and-both, and-false, and-true}
 use Rattle.boxes.specs.Answer.{_>>_, check}
 use Rattle.boxes.specs.Types.{coded}
-use Rattle.boxes.proofs.HeaderLaws.{and-false}
 use Rattle.contents.specs.Iloc.{Extent, Location}
 use Rattle.contents.specs.Iinf.{Item}
 use Rattle.contents.specs.File.{File}
 use Rattle.rules.specs.Bytes.{Store, storeOf, allExtents, goodMethod, goodLengths, within}
-use Rattle.rules.specs.Derivations.{nothingIn}
 use Rattle.rules.specs.Joined.{locationOf, itemAt}
 use Rattle.rules.specs.Places.{Places, fileOffset}
 use Rattle.rules.specs.Rules.{hasBytes, rule13-14}
 use Rattle.views.specs.View.{TableOf, Judging, recordWord, idOf}
 use Rattle.views.specs.Told.{faultOf}
 use Rattle.views.proofs.TableLaws.{row-small}
+use Rattle.rules.proofs.DerivationLaws.{nothing-in, nothing-none}
 use Rattle.placed.proofs.ExtentLaws.{extents-count}
-
--- _&&_
-and-true : (b : Bool) → (b && true) ≡ b
-and-true true = refl
-and-true false = refl
 
 -- leb
 same-leb : (a b c d : ℕ) → (a ≤ b → c ≤ d) → (c ≤ d → a ≤ b) → leb a b ≡ leb c d
@@ -39,15 +33,6 @@ same-leb a b c d there back = by (leb a b) (leb c d) refl refl
     by true false e q = absurd (omega (arith, there (leb-true a b e), leb-false c d q))
     by false true e q = absurd (omega (arith, back (leb-true c d q), leb-false a b e))
     by false false e q = e ∙ sym q
-
--- nothingIn
-nothing-in : {A : Type 0} (l : List A) → nothingIn l ≡ true → length l ≡ 0
-nothing-in [] e = refl
-nothing-in (x ∷ l) e = untrue e
-
-in-nothing : {A : Type 0} (l : List A) → length l ≡ 0 → nothingIn l ≡ true
-in-nothing [] e = refl
-in-nothing (x ∷ l) e = absurd (omega arith)
 
 -- within: in bytes of the source, and in places of the file, where the source ends at `end`
 within-before : (total : ℕ) (head : List ℕ) (f : File) (pl : Places) (l : Location) (end : ℕ) → (l .method ≡ 1 → end ≡ pl .idat + length (f .idat)) → ((l .method ≡ 1 → ⊥) → end ≡ total)
@@ -94,10 +79,10 @@ module _ {t head : List ℕ} {pl : Places} {f : File} (v : TableOf t head pl f) 
     pub bytes-none : n ≡ 0 → (k : ℕ) → (r < 256 → k ≡ recordWord t r 1) → (b : Bool) → b ≡ coded k → not b ≡ hasBytes f (itemAt f r)
     bytes-none z k q b p =
         let y : b ≡ coded (itemAt f r .type) = p ∙ ap (λ (x : ℕ). coded x) (q (row-small v r h) ∙ v .type r h) in
-        rw (in-nothing (locationOf f (idOf f r) .extents) (sym (extents-count v r n h e) ∙ z), ← y) (ap not (sym (and-true b)))
+        rw (nothing-none (locationOf f (idOf f r) .extents) (sym (extents-count v r n h e) ∙ z), ← y) (ap not (sym (and-true b)))
 
     pub bytes-some : (n ≡ 0 → ⊥) → true ≡ hasBytes f (itemAt f r)
-    bytes-some z = sym (ap not (and-false (coded (itemAt f r .type)) _ (λ a b. z (extents-count v r n h e ∙ nothing-in (locationOf f (idOf f r) .extents) b))))
+    bytes-some z = sym (ap not (and-false (coded (itemAt f r .type)) _ (λ a b. z (extents-count v r n h e ∙ ap length (nothing-in (locationOf f (idOf f r) .extents) b)))))
 
 -- rule13-14: by three answers, each needed only where those before it are yes
 module _ (total : ℕ) (head : List ℕ) (f : File) (i : Item) (good : Bool) (e : good ≡ (goodMethod (locationOf f (i .id)) && goodLengths (locationOf f (i .id)))) where

@@ -14,11 +14,11 @@ use Rattle.fields.specs.Choice.{pick}
 use Rattle.fields.specs.Field.{beAt}
 use Rattle.fields.proofs.FieldLaws.{Bytes, be-below, pick-yes, pick-no}
 use Rattle.boxes.specs.Answer.{Answer, refuse}
-use Rattle.boxes.proofs.HeaderLaws.{and-false}
 use Rattle.forms.specs.Form.{Got, got, many}
 use Rattle.forms.proofs.StepLaws.{reads, read-reads, reads-bind, reads-field, reads-short, reads-yes, reads-no, reads-give, reads-none, reads-more}
 use Rattle.contents.specs.Ipma.{Association, markOf, association-form}
 use Rattle.records.proofs.SetsLaws.{sets-append}
+use Rattle.fields.proofs.TestLaws.{and-false, and-none}
 use Rattle.properties.specs.Steps.{KeptIds, wordsOf, AssociatedHere}
 use Rattle.properties.proofs.KeepLaws.{sets-high}
 
@@ -55,16 +55,12 @@ module _ (a mark : ℕ) (m : 1 ≤ mark) where
 abbrev wanted : ℕ → ℕ → ℕ → Bool
 wanted mark most a = leb (a % mark) most && not (leb mark a && eqb (a % mark) 0)
 
-and-no : (c : Bool) → (c && false) ≡ false
-and-no true = refl
-and-no false = refl
-
 module _ (mark most a : ℕ) where
   wanted-far : most < a % mark → wanted mark most a ≡ false
   wanted-far h = rw (lt-leb (a % mark) most h)
 
   wanted-none : a ≡ mark → wanted mark most a ≡ false
-  wanted-none e = rw (e, mod-self mark, le-leb mark mark (omega arith)) (and-no (leb 0 most))
+  wanted-none e = rw (e, mod-self mark, le-leb mark mark (omega arith)) (and-none (leb 0 most) false refl)
 
   wanted-good : 1 ≤ mark → a < 2 * mark → a % mark ≤ most → (a ≡ mark → ⊥) → wanted mark most a ≡ true
   wanted-good m l h n =

@@ -22,13 +22,13 @@ use Rattle.table.specs.declared.ItemRow.{ItemRow}
 use Rattle.records.specs.Rows.{idAt, idsIn, FoundIs}
 use Rattle.records.specs.declared.FoundRow.{FoundRow}
 use Rattle.records.specs.declared.FoundRow.the-variants as found
+use Rattle.records.proofs.IdLaws.{row-listed, found-row, found-none}
 use Rattle.properties.specs.Steps.{KeptIds, AssociatedHere, AssociatedIs, spanWords, list-form, ListedHere, ListedIs, Above, NamedHere}
 use Rattle.properties.specs.declared.Associated.{Associated}
 use Rattle.properties.specs.declared.Associated.the-variants as associated
 use Rattle.properties.specs.declared.Listed.{Listed}
 use Rattle.properties.specs.declared.Listed.the-variants as listed
 use Rattle.properties.proofs.KeepLaws.{kept-self}
-use Rattle.properties.proofs.RowLaws.{row-listed, found-row, found-none}
 
 -- idBytes
 pub id-width : (v n : ℕ) → n ≡ idBytes v → (n ≡ 2) ⊎ (n ≡ 4)

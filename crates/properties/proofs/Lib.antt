@@ -1,6 +1,5 @@
 pub mod CheckLaws
 pub mod KeepLaws
-pub mod RowLaws
 pub mod AssociationLaws
 pub mod EntryLaws
 pub mod NameLaws

@@ -33,6 +33,7 @@ use Rattle.records.specs.Stage.{Ready, withNames}
 use Rattle.records.proofs.MemberLaws.{member-other}
 use Rattle.records.proofs.SaidLaws.{namedIn}
 use Rattle.records.proofs.RawLaws.{raw-id, raw-named}
+use Rattle.contents.proofs.SumLaws.{associations-more}
 use Rattle.properties.specs.Steps.{KeptIds, wordsOf, spanWords, Above, NamedHere, NamedPutIs, toldNames, NamesLeft}
 use Rattle.properties.specs.declared.NamedPut.{NamedPut}
 use Rattle.properties.specs.declared.NamedPut.the-variants as named
@@ -41,11 +42,6 @@ use Rattle.properties.specs.declared.NamesRead.the-variants as names
 use Rattle.properties.proofs.KeepLaws.{kept-self, kept-then, sets-high, sets-row}
 
 -- one entry more
-pub associations-more : (ns : List Named) (n : Named) → associationsIn (ns ++ (n ∷ [])) ≡ associationsIn ns + length (n .list)
-unfolding associationsIn
-associations-more [] n = omega arith
-associations-more (m ∷ ns) n = let e = associations-more ns n in omega arith
-
 rises-more : (ns : List Named) (n : Named) (x : ℕ) → rises x (ns ++ (n ∷ [])) ≡ ltb (n .id) x
 rises-more [] n x = refl
 rises-more (m ∷ []) n x = refl

@@ -1,20 +1,20 @@
 -- The properties of an `ipco`, one at a time: what the loop over them uses. Assumes nothing.
-use Prim.Native.Nat.{ℕ, zero, suc, _+_, _*_, _-_, _≤_, _<_}
+use Prim.Native.Nat.{ℕ, _+_, _*_, _-_, _≤_, _<_}
 use native.Mathlib.Omega.{arith}
 use mathlib.Core.Path.{_≡_, refl, sym, ap, _∙_, subst}
 use mathlib.Core.List.{List, [], _∷_, _++_}
 use lib.ListN.{length, take, drop, length-append}
-use lib.Seq.{sets, take-nil, drop-drop}
+use lib.Seq.{sets}
 use lib.Dec.{ltb}
 use borrow.Author.Tests.{ltb-true, lt-ltb, le-ltb}
 use Rattle.boxes.specs.Answer.{Answer, ok, refuse, check, _>>=_, _>>_}
-use Rattle.boxes.specs.Box.{headOf, kindOf, bodyOf, flat}
+use Rattle.boxes.specs.Box.{kindOf, bodyOf, flat}
 use Rattle.boxes.specs.Children.{contain}
 use Rattle.boxes.specs.Header.{childAt}
 use Rattle.boxes.specs.declared.Child.the-variants as child
 use Rattle.boxes.specs.declared.Refusal.{Refusal}
 use Rattle.boxes.proofs.AnswerLaws.{then-ok, ok-then, check-ok, ok-inj}
-use Rattle.boxes.proofs.ContainLaws.{childrenFrom, Stood, stood, from-box, from-bad, from-spare, from-end}
+use Rattle.boxes.proofs.ContainLaws.{childrenFrom, Stood, stood, from-box, from-bad, from-spare, from-end, stood-body}
 use Rattle.contents.specs.Ipco.{held, property}
 use Rattle.contents.specs.File.{File}
 use Rattle.rules.specs.Places.{Places}
@@ -45,21 +45,6 @@ then-then : {A B C : Type 0} (m : Answer A) (k : Answer B) (l : Answer C) → ((
 unfolding _>>_
 then-then (ok a) k l = refl
 then-then (refuse n p) k l = refl
-
--- a part of a part
-drop-take : (h n : ℕ) (l : List ℕ) → drop h (take n l) ≡ take (n - h) (drop h l)
-drop-take zero n l = let e : n ≡ n - 0 = omega arith in ap (λ (k : ℕ). take k l) e
-drop-take (suc h) n [] = ap (drop (suc h)) (take-nil n) ∙ sym (take-nil (n - suc h))
-drop-take (suc h) zero (x ∷ l) = let e : 0 ≡ 0 - suc h = omega arith in ap (λ (k : ℕ). take k (drop h l)) e
-drop-take (suc h) (suc n) (x ∷ l) = let e : n - h ≡ suc n - suc h = omega arith in drop-take h n l ∙ ap (λ (k : ℕ). take k (drop h l)) e
-
--- the content of the child at a place
-body-part : (s : List ℕ) (at kind body end : ℕ) → Stood s at kind body end → bodyOf (take (end - at) (drop at s)) ≡ take (end - body) (drop body s)
-body-part s at kind body end w =
-    let h = headOf (take (end - at) (drop at s)) in
-    let b = w .its-body in
-    let e : end - at - h ≡ end - body = omega (arith, w .order) in
-    drop-take h (end - at) (drop at s) ∙ ap (take (end - at - h)) (drop-drop h at s) ∙ ap (λ (k : ℕ). take (end - at - h) (drop k s)) b ∙ ap (λ (k : ℕ). take k (drop body s)) e
 
 -- nextProperty
 next-many : (n kind place : ℕ) (s : List ℕ) → n ≡ 256 → nextProperty n kind place s ≡ refuse 9 place
@@ -197,7 +182,7 @@ module _ (s : List ℕ) (place base : ℕ) (t₀ : List ℕ) where
         next-is m h =
             ap (λ (i : ℕ). nextProperty i (kindOf b) (base + at) (bodyOf b)) (so .count)
             ∙ ap (λ (k : ℕ). nextProperty n k (base + at) (bodyOf b)) (there .its-kind)
-            ∙ ap (nextProperty n kind (base + at)) (body-part s at kind body end there)
+            ∙ ap (nextProperty n kind (base + at)) (sym (stood-body s at kind body end there))
             ∙ h
 
         pub properties-held : (x : Refusal) → r ≡ checked.Refused x → Tells (properties.Refused x) u

@@ -3,23 +3,25 @@ use Prim.Native.Nat.{ℕ, _+_, _-_, _≤_}
 use native.Mathlib.Omega.{arith}
 use mathlib.Core.Path.{_≡_, refl, sym, ap, _∙_}
 use mathlib.Core.List.{List, [], _∷_, _++_, append-nil}
-use mathlib.Core.Bool.{Bool, true, false, _&&_}
+use mathlib.Core.Bool.{false}
 use lib.ListN.{length, take, drop, length-append, length-drop}
 use lib.Seq.{take-all, take-at, drop-append-le, drop-append-add}
 use lib.Dec.{eqb}
-use borrow.Author.Tests.{eq-eqb, ne-eqb}
+use borrow.Author.Tests.{ne-eqb}
 use Rattle.fields.specs.Lists.{All}
 use Rattle.fields.proofs.FieldLaws.{be-front}
 use Rattle.boxes.specs.Answer.{Answer, ok, refuse, check, _>>=_, _>>_}
 use Rattle.boxes.specs.Types.{ipco, ipma}
 use Rattle.boxes.specs.Box.{headOf, kindOf, bodyOf, IsBox, flat}
-use Rattle.boxes.specs.Children.{contain, once, Children}
+use Rattle.boxes.specs.Children.{contain}
 use Rattle.boxes.specs.declared.Refusal.{Refusal}
 use Rattle.boxes.proofs.BoxLaws.{head-least}
-use Rattle.boxes.proofs.ChildLaws.{children-sound}
 use Rattle.contents.specs.Iinf.{idsOf}
 use Rattle.contents.specs.Iprp.{Pair, anyBox, pairOf, shown}
 use Rattle.records.specs.Rows.{idsIn}
+use Rattle.fields.proofs.TestLaws.{and-none}
+use Rattle.records.proofs.IdLaws.{raw-ids}
+use Rattle.contents.proofs.PropertyLaws.{any-sound, pair-complete}
 use Rattle.properties.specs.Told.{toldShown, ShownLeft}
 use Rattle.properties.specs.Steps.{levelOf, toldLevel, pairShown, PairLeft}
 use Rattle.properties.specs.declared.Level.{Level}
@@ -27,7 +29,6 @@ use Rattle.properties.specs.declared.LevelRead.{LevelRead}
 use Rattle.properties.specs.declared.LevelRead.the-variants as level
 use Rattle.properties.specs.declared.ShownRead.{ShownRead}
 use Rattle.properties.specs.declared.ShownRead.the-variants as read
-use Rattle.properties.proofs.RowLaws.{raw-ids}
 
 -- toldLevel: what the code's value says
 level-are : (m : Answer (List (List ℕ))) (l : Level) → toldLevel m ≡ level.Is l → (bs : List (List ℕ)) × (m ≡ ok bs) × (l ≡ levelOf bs)
@@ -40,11 +41,6 @@ unfolding toldLevel
 level-none (ok bs) x e = let z : _≡_ {A = ℕ} 0 1 = cc in absurd (omega arith)
 level-none (refuse a b) x e = let k : x ≡ record { number = a; place = b } = cc in rw k
 
--- anyBox: children of which no type is known
-any-sound : (p at : ℕ) (s : List ℕ) (bs : List (List ℕ)) → contain anyBox p at [] s ≡ ok bs → Children (λ k. false) s bs
-unfolding once check _>>_
-any-sound p at s bs e = children-sound (λ k. false) p at s bs e
-
 -- pairOf, by what the code keeps of the children
 pair-count : (p : ℕ) (bs : List (List ℕ)) → (levelOf bs .count ≡ 2 → ⊥) → pairOf p bs ≡ refuse 7 p
 unfolding pairOf levelOf
@@ -53,21 +49,13 @@ pair-count p (a ∷ []) h = refl
 pair-count p (a ∷ b ∷ []) h = absurd (h refl)
 pair-count p (a ∷ b ∷ c ∷ bs) h = refl
 
-and-no : (c : Bool) → (c && false) ≡ false
-and-no true = refl
-and-no false = refl
-
 pair-first : (p : ℕ) (a b : List ℕ) → (kindOf a ≡ ipco → ⊥) → pairOf p (a ∷ b ∷ []) ≡ refuse 7 p
 unfolding pairOf check _>>_
 pair-first p a b h = rw (ne-eqb (kindOf a) ipco h)
 
 pair-second : (p : ℕ) (a b : List ℕ) → (kindOf b ≡ ipma → ⊥) → pairOf p (a ∷ b ∷ []) ≡ refuse 7 p
 unfolding pairOf check _>>_
-pair-second p a b h = rw (ne-eqb (kindOf b) ipma h, and-no (eqb (kindOf a) ipco))
-
-pair-both : (p : ℕ) (a b : List ℕ) → kindOf a ≡ ipco → kindOf b ≡ ipma → pairOf p (a ∷ b ∷ []) ≡ ok (record { first = a; second = b })
-unfolding pairOf check _>>_
-pair-both p a b h k = rw (eq-eqb (kindOf a) ipco h, eq-eqb (kindOf b) ipma k)
+pair-second p a b h = rw (ne-eqb (kindOf b) ipma h, and-none (eqb (kindOf a) ipco) false refl)
 
 -- two boxes that are all of s
 pub record Two (s : List ℕ) (bs : List (List ℕ)) : Type 0 where
@@ -195,7 +183,7 @@ module _ (s : List ℕ) (place base n : ℕ) (t : List ℕ) where
           paired : pairOf place (these .0) ≡ ok (record { first = a; second = b })
           paired =
               ap (pairOf place) (both .are)
-              ∙ pair-both place a b (ap (λ (m : Level). m .kind0) (sym level-is) ∙ h) (ap (λ (m : Level). m .kind1) (sym level-is) ∙ k)
+              ∙ pair-complete place a b (ap (λ (m : Level). m .kind0) (sym level-is) ∙ h) (ap (λ (m : Level). m .kind1) (sym level-is) ∙ k)
 
           same : (ids : List ℕ) → shown ids place base s ≡ pairShown ids base (l .body0) (l .end0) (take (l .end0 - l .body0) (drop (l .body0) s)) (take (l .end1 - l .body1) (drop (l .body1) s))
           same ids = shown-pair ids place base s (these .0) (these .1) _ paired ∙ pair-parts a b (both .first-box) (both .second-box) ids base s l (both .joined) level-is

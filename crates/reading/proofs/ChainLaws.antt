@@ -1,21 +1,16 @@
 -- From each box on to the next. Assumes nothing.
-use Prim.Native.Nat.{ℕ, zero, suc, _+_, _*_, _≤_, _<_}
+use Prim.Native.Nat.{ℕ, _+_, _*_, _<_}
 use native.Mathlib.Omega.{arith}
 use mathlib.Core.Path.{_≡_, refl, sym, ap, _∙_, subst}
-use mathlib.Core.List.{List, [], _∷_, _++_}
-use mathlib.Core.Bool.{Bool, true, false}
+use mathlib.Core.List.{List, [], _++_}
 use lib.ListN.{length, getD}
 use Rattle.fields.specs.Choice.{pick}
-use Rattle.boxes.specs.Answer.{Answer, ok, refuse, _>>=_, _>>_}
-use Rattle.boxes.specs.Types.{hdlr, pitm, iinf, iloc, iprp, iref, idat}
-use Rattle.boxes.specs.Box.{headOf, bodyOf}
-use Rattle.boxes.specs.Children.{ofKind, filled, placeOf}
-use Rattle.boxes.specs.Where.{whereOf}
-use Rattle.boxes.specs.Family.{spotOf}
-use Rattle.boxes.specs.declared.Spot.{Spot}
+use Rattle.boxes.specs.Answer.{Answer, ok, refuse, _>>_}
+use Rattle.boxes.specs.Types.{hdlr, pitm, iinf, iloc, iprp}
+use Rattle.boxes.specs.Children.{placeOf}
 use Rattle.boxes.specs.declared.Refusal.{Refusal}
 use Rattle.boxes.proofs.AnswerLaws.{ok-bind}
-use Rattle.forms.specs.Form.{Form, whole, front}
+use Rattle.forms.specs.Form.{whole, front}
 use Rattle.contents.specs.Hdlr.{hdlr-form}
 use Rattle.contents.specs.Pitm.{pitm-form}
 use Rattle.contents.specs.Iinf.{Item, idsOf, items}
@@ -24,14 +19,12 @@ use Rattle.contents.specs.Ipma.{associationsIn}
 use Rattle.contents.specs.Iprp.{Shown, shown}
 use Rattle.contents.specs.File.{File}
 use Rattle.rules.specs.Joined.{derivedFrom}
-use Rattle.rules.specs.Places.{Places, firstOf, placesAt}
-use Rattle.records.specs.Raw.{rawOf, unread, Bounded}
-use Rattle.records.specs.Rows.{idAt, idsIn, Distinct}
-use Rattle.records.specs.Stage.{Ready, withItems, withLocations, withProperties, withNames}
+use Rattle.rules.specs.Places.{placesAt}
+use Rattle.records.specs.Raw.{rawOf}
+use Rattle.records.specs.Rows.{idsIn, Distinct}
+use Rattle.records.specs.Stage.{withItems, withLocations, withProperties, withNames}
 use Rattle.records.proofs.RawLaws.{raw-located, raw-derived}
-use Rattle.reading.specs.declared.Counts.{Counts}
-use Rattle.reading.specs.Parts.{kids, Standing, Before, LastBefore, contentOf, beginOf, fromHandler, fromItems, fromLocations, fromShown, fromReferences}
-use Rattle.reading.proofs.SpotLaws.{there, not-there, boxes-all, boxes-joined, spot-is}
+use Rattle.reading.specs.Parts.{kids, Before, LastBefore, contentOf, beginOf, fromHandler, fromItems, fromLocations, fromShown, fromReferences}
 use Rattle.reading.proofs.BoundLaws.{iloc-few, shown-few}
 use Rattle.reading.proofs.StageLaws.{ids-are}
 use Rattle.reading.proofs.ToldLaws.{refuse-bind}

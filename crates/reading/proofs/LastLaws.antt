@@ -1,8 +1,8 @@
 -- `iref`, and the end of reading. Assumes nothing.
-use Prim.Native.Nat.{ℕ, _+_, _*_, _-_, _/_, _%_, _≤_, _<_}
+use Prim.Native.Nat.{ℕ, _+_, _-_, _/_, _%_, _≤_, _<_}
 use native.Mathlib.Omega.{arith}
 use mathlib.Core.Path.{_≡_, refl, sym, ap, _∙_, subst}
-use mathlib.Core.List.{List, [], _∷_, _++_}
+use mathlib.Core.List.{List, [], _++_}
 use lib.ListN.{length, getD, take, drop, set, length-set, length-take, length-drop}
 use lib.Seq.{drop-set-lt}
 use lib.Dec.{lit<}
@@ -19,20 +19,20 @@ use Rattle.contents.specs.Iref.{Derivation, targetsIn, references}
 use Rattle.contents.specs.File.{File}
 use Rattle.rules.specs.Places.{firstOf, placesAt}
 use Rattle.records.specs.Raw.{rawOf}
-use Rattle.records.specs.Rows.{idsIn, Distinct}
-use Rattle.records.specs.Stage.{Kept, Ready, withDerivations}
+use Rattle.records.specs.Rows.{idsIn}
+use Rattle.records.specs.Stage.{Kept, withDerivations}
 use Rattle.references.specs.Told.{toldReferences, ReferencesLeft}
 use Rattle.references.specs.declared.ReferencesRead.the-variants as told
+use Rattle.records.proofs.KeptLaws.{kept-same}
+use Rattle.references.proofs.ChildrenLaws.{references-refused}
+use Rattle.reading.proofs.BoundLaws.{iref-few}
 use Rattle.reading.specs.declared.Counts.{Counts}
 use Rattle.reading.specs.declared.FileRead.{FileRead}
 use Rattle.reading.specs.declared.FileRead.the-variants.{Refused}
-use Rattle.reading.specs.Parts.{kids, Standing, Before, LastBefore, After, shownOf, fromReferences, toldSpot, Has}
+use Rattle.reading.specs.Parts.{kids, Standing, LastBefore, After, shownOf, fromReferences, toldSpot, Has}
 use Rattle.reading.proofs.SpotLaws.{there, not-there, boxes-all, boxes-joined, spot-is, SpotIs}
-use Rattle.reading.proofs.TableLaws.{kept-same}
-use Rattle.reading.proofs.BoundLaws.{references-few}
 use Rattle.reading.proofs.StageLaws.{ids-are, after-refused, after-read, references-none, references-read, references-gone}
-use Rattle.reading.proofs.ChainLaws.{ids-distinct, none-derived}
-use Rattle.reading.proofs.ToldLaws.{references-ok, references-refused}
+use Rattle.reading.proofs.ToldLaws.{references-ok}
 
 abbrev pub seat : List Spot → ℕ → Spot
 seat spots j = getD spots j (record { start = 0; body = 0; end = 0 })
@@ -128,7 +128,7 @@ module _ (s : List ℕ) (at total primary : ℕ) (spots : List Spot) (st : Stand
       last-gone r e u = after-refused s at total _ r x u (references-gone s at spots st primary (f .items) (f .locations) (shownOf f) has r (sym same ∙ references-refused _ r e))
 
       pub last-few : (k : ℕ) → toldReferences (references (idsIn t (c .items)) (at + here .start) (at + here .body) part) ≡ told.Targets k → k ≤ 2048
-      last-few k e = let o = references-ok _ k e in let b = references-few _ _ _ _ (o .0) (o .1) in omega (arith, o .2)
+      last-few k e = let o = references-ok _ k e in let b = iref-few _ _ _ _ (o .0) (o .1) in omega (arith, o .2)
 
       pub last-read : (k : ℕ) → toldReferences (references (idsIn t (c .items)) (at + here .start) (at + here .body) part) ≡ told.Targets k → (v u : List ℕ) → ReferencesLeft part (at + here .start) (at + here .body) (c .items) t v → u ≡ stored k v → (r : FileRead) → r ≡ toldSpot at s → result r u
       last-read k e v u left w r a =

@@ -1,19 +1,15 @@
 -- The children of `meta`, the version before them, and the head around them. Assumes nothing.
-use Prim.Native.Nat.{ℕ, zero, suc, _+_, _-_, _≤_, _<_}
+use Prim.Native.Nat.{ℕ, _+_, _-_, _≤_, _<_}
 use native.Mathlib.Omega.{arith}
 use mathlib.Core.Path.{_≡_, refl, sym, ap, _∙_, subst}
-use mathlib.Core.List.{List, [], _∷_, _++_}
-use mathlib.Core.Bool.{Bool, true, false, _&&_}
-use lib.ListN.{length, take, drop, replicate, length-drop}
-use lib.Seq.{drop-drop}
-use lib.Dec.{leb}
+use mathlib.Core.List.{List, []}
+use lib.ListN.{length, drop, length-drop}
 use borrow.Author.Tests.{le-leb, lt-leb}
-use Rattle.fields.specs.Choice.{pick}
 use Rattle.fields.specs.Lists.{All}
-use Rattle.boxes.specs.Answer.{Answer, ok, refuse, check, _>>=_, _>>_}
-use Rattle.boxes.specs.Types.{hdlr, pitm, iinf, iloc, iprp, known}
-use Rattle.boxes.specs.Box.{headOf, bodyOf, IsBox, flat, Cut, cut}
-use Rattle.boxes.specs.Children.{ofKind, filled, children, Children}
+use Rattle.boxes.specs.Answer.{ok, refuse, check, _>>=_, _>>_}
+use Rattle.boxes.specs.Types.{known}
+use Rattle.boxes.specs.Box.{headOf, bodyOf, IsBox, Cut, cut}
+use Rattle.boxes.specs.Children.{children}
 use Rattle.boxes.specs.Family.{spotsOf}
 use Rattle.boxes.specs.Top.{metaIn}
 use Rattle.boxes.specs.Top as Top
@@ -22,19 +18,13 @@ use Rattle.boxes.specs.declared.Refusal.{Refusal}
 use Rattle.boxes.proofs.AnswerLaws.{ok-bind, ok-then, ok-check}
 use Rattle.boxes.proofs.BoxLaws.{cut-only, full-cut}
 use Rattle.boxes.proofs.ChildLaws.{children-sound}
-use Rattle.forms.specs.Form.{Form, got}
 use Rattle.forms.specs.Lead.{lead, leadBy}
-use Rattle.contents.specs.Full.{Full, full, upto}
-use Rattle.contents.specs.File.{File, contentsOf, fileOf, readFile}
+use Rattle.contents.specs.Full.{full, upto}
+use Rattle.contents.specs.File.{contentsOf, fileOf, readFile}
 use Rattle.contents.proofs.FullLaws.{FullHere}
-use Rattle.rules.specs.Places.{Places, placesAt, placesBy, placesIn}
-use Rattle.rules.specs.Words.{headWords}
-use Rattle.records.specs.Raw.{rawOf, unread}
-use Rattle.reading.specs.Parts.{kids, Five, Missing, Standing, After, spotsIn, fromHandler, toldFile}
-use Rattle.reading.specs.declared.FileRead.{FileRead}
-use Rattle.reading.specs.declared.FileRead.the-variants.{Is, Refused}
-use Rattle.reading.proofs.PartLaws.{contents-refused, contents-parts, contents-missing}
-use Rattle.reading.proofs.StageLaws.{after-refused}
+use Rattle.rules.specs.Places.{placesAt, placesBy, placesIn}
+use Rattle.reading.specs.Parts.{kids, Five, Standing, spotsIn, fromHandler}
+use Rattle.reading.proofs.PartLaws.{contents-parts}
 use Rattle.reading.proofs.ToldLaws.{refuse-bind}
 
 -- kids: the children that are read are those that the content is cut into

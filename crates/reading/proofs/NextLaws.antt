@@ -1,32 +1,28 @@
 -- From `iloc` to `iprp` and from there to the last stage, as the code's answers tell it. Assumes nothing.
-use Prim.Native.Nat.{ℕ, _+_, _-_, _≤_, _<_}
+use Prim.Native.Nat.{ℕ, _+_, _-_, _≤_}
 use native.Mathlib.Omega.{arith}
-use mathlib.Core.Path.{_≡_, refl, sym, ap, _∙_, subst}
-use mathlib.Core.List.{List, [], _∷_, _++_}
-use lib.ListN.{length, getD, take, drop}
+use mathlib.Core.Path.{_≡_, refl, sym, ap, _∙_}
+use mathlib.Core.List.{List}
+use lib.ListN.{length, take, drop}
 use Rattle.boxes.specs.Answer.{Answer, ok}
 use Rattle.boxes.specs.Types.{iloc, iprp}
-use Rattle.boxes.specs.Box.{headOf, bodyOf}
+use Rattle.boxes.specs.Box.{headOf}
 use Rattle.boxes.specs.Children.{placeOf}
 use Rattle.boxes.specs.Where.{whereOf}
 use Rattle.boxes.specs.Family.{spotOf}
 use Rattle.boxes.specs.declared.Spot.{Spot}
 use Rattle.boxes.specs.declared.Refusal.{Refusal}
-use Rattle.forms.specs.Form.{Form, whole}
+use Rattle.forms.specs.Form.{whole}
 use Rattle.contents.specs.Iinf.{Item, idsOf}
 use Rattle.contents.specs.Iloc.{Location, extentsIn, iloc-form}
-use Rattle.contents.specs.Ipma.{associationsIn}
 use Rattle.contents.specs.Iprp.{Shown, shown}
-use Rattle.contents.specs.File.{File}
-use Rattle.rules.specs.Places.{firstOf, placesAt}
+use Rattle.rules.specs.Places.{placesAt}
 use Rattle.records.specs.Rows.{idsIn}
 use Rattle.records.specs.Stage.{withItems, withLocations, withProperties, withNames}
 use Rattle.locations.specs.Told.{toldLocations, LocationsLeft, Unplaced}
 use Rattle.locations.specs.declared.LocationsRead.the-variants as located
 use Rattle.properties.specs.Told.{toldShown, ShownLeft}
 use Rattle.properties.specs.declared.ShownRead.the-variants as showing
-use Rattle.reading.specs.declared.Counts.{Counts}
-use Rattle.reading.specs.declared.FileRead.{FileRead}
 use Rattle.reading.specs.declared.FileRead.the-variants.{Refused}
 use Rattle.reading.specs.Parts.{kids, Standing, Before, LastBefore, After, contentOf, beginOf, fromLocations, fromShown, fromReferences, Has}
 use Rattle.reading.proofs.SpotLaws.{boxes-all, boxes-joined, spot-is, SpotIs}

@@ -1,16 +1,16 @@
 -- The contents of `meta`, part by part. Assumes nothing.
-use Prim.Native.Nat.{ℕ, _+_}
+use Prim.Native.Nat.{ℕ}
 use native.Mathlib.Omega.{arith}
-use mathlib.Core.Path.{_≡_, refl, sym, ap, _∙_}
+use mathlib.Core.Path.{_≡_, refl, _∙_}
 use mathlib.Core.List.{List, [], _∷_}
-use mathlib.Core.Bool.{Bool, true, false}
+use mathlib.Core.Bool.{true, false}
 use mathlib.Core.Logic.{_⊎_, inl, inr}
-use lib.ListN.{length, getD}
+use lib.ListN.{getD}
 use Rattle.boxes.specs.Answer.{Answer, ok, refuse, _>>=_, _>>_}
-use Rattle.boxes.specs.Types.{hdlr, pitm, iinf, iloc, iprp, iref, idat, known}
+use Rattle.boxes.specs.Types.{hdlr, pitm, iinf, iloc, iprp, known}
 use Rattle.boxes.specs.Children.{ofKind, filled, children, theOne, firstOr}
 use Rattle.boxes.proofs.AnswerLaws.{ok-bind}
-use Rattle.contents.specs.File.{File, contentsOf}
+use Rattle.contents.specs.File.{contentsOf}
 use Rattle.rules.specs.Places.{firstOf}
 use Rattle.reading.specs.Parts.{Has, Five, fromHandler, fromItems, fromLocations, fromShown, fromReferences}
 

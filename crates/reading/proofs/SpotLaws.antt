@@ -1,21 +1,21 @@
 -- The children of `meta` as the code finds them. Assumes nothing.
-use Prim.Native.Nat.{ℕ, zero, suc, _+_, _-_, _≤_, _<_}
+use Prim.Native.Nat.{ℕ, _+_, _-_, _≤_, _<_}
 use native.Mathlib.Omega.{arith}
 use mathlib.Core.Path.{_≡_, refl, sym, ap, _∙_, subst}
-use mathlib.Core.List.{List, [], _∷_, _++_, append-nil}
+use mathlib.Core.List.{List, [], _∷_, append-nil}
 use mathlib.Core.Bool.{Bool, true, false}
-use lib.ListN.{length, getD, take, drop, length-append, length-take, length-drop}
+use lib.ListN.{length, getD, take, drop, length-take, length-drop}
 use lib.Dec.{eqb}
-use borrow.Author.Tests.{eqb-true, eqb-false}
+use borrow.Author.Tests.{eqb-true}
 use Rattle.fields.specs.Choice.{pick}
 use Rattle.fields.specs.Lists.{All}
-use Rattle.boxes.specs.Box.{headOf, kindOf, bodyOf, IsBox, flat, Cut, cut}
+use Rattle.boxes.specs.Box.{headOf, kindOf, bodyOf, IsBox, flat}
 use Rattle.boxes.specs.Children.{ofKind, filled, placeOf}
 use Rattle.boxes.specs.Where.{Where, nowhere, stands, whereOf}
 use Rattle.boxes.specs.Family.{spotOf}
 use Rattle.boxes.specs.declared.Spot.{Spot}
 use Rattle.boxes.proofs.BoxLaws.{head-least, cut-is, cut-whole}
-use Rattle.boxes.proofs.ChildLaws.{of-yes, of-no, of-nil, nil-filled}
+use Rattle.boxes.proofs.ChildLaws.{of-yes, of-no, nil-filled}
 use Rattle.boxes.specs.Types.{idat}
 use Rattle.boxes.proofs.WhereLaws.{Stands, where-yes, where-no, where-first}
 use Rattle.rules.specs.Places.{firstOf}

@@ -1,39 +1,36 @@
 -- One stage after another. Assumes nothing.
-use Prim.Native.Nat.{ℕ, zero, suc, _+_, _*_, _-_, _/_, _%_, _≤_, _<_}
+use Prim.Native.Nat.{ℕ, zero, suc, _+_, _-_, _/_, _%_, _≤_, _<_}
 use native.Mathlib.Omega.{arith}
 use mathlib.Core.Path.{_≡_, refl, sym, ap, _∙_, subst}
-use mathlib.Core.List.{List, [], _∷_, _++_, map}
-use mathlib.Core.Bool.{Bool, true, false}
-use lib.ListN.{length, getD, take, drop, set, length-set, length-map}
+use mathlib.Core.List.{List, [], _∷_, _++_}
+use mathlib.Core.Bool.{false}
+use lib.ListN.{length, getD, take, set, length-map}
 use lib.Seq.{take-suc, take-all}
 use Rattle.boxes.specs.Answer.{Answer, ok, refuse, _>>=_}
 use Rattle.boxes.specs.Types.{iref, idat}
 use Rattle.boxes.specs.Box.{headOf, bodyOf}
 use Rattle.boxes.specs.Children.{ofKind, filled, placeOf}
-use Rattle.boxes.specs.Where.{whereOf}
-use Rattle.boxes.specs.Family.{spotOf}
 use Rattle.boxes.specs.declared.Spot.{Spot}
 use Rattle.boxes.specs.declared.Refusal.{Refusal}
 use Rattle.boxes.proofs.AnswerLaws.{ok-bind, ok-inj}
 use Rattle.boxes.proofs.ChildLaws.{nil-filled}
 use Rattle.contents.specs.Iinf.{Item, idsOf}
-use Rattle.contents.specs.Iloc.{Location, extentsIn}
-use Rattle.contents.specs.Ipma.{associationsIn}
+use Rattle.contents.specs.Iloc.{Location}
 use Rattle.contents.specs.Iprp.{Shown}
 use Rattle.contents.specs.Iref.{Derivation, targetsIn, references}
-use Rattle.contents.specs.File.{File, referred, dataOf}
-use Rattle.rules.specs.Places.{Places, firstOf, placesAt}
-use Rattle.rules.specs.Words.{headWords, highLow}
-use Rattle.records.specs.Raw.{rawOf, Bounded}
+use Rattle.contents.specs.File.{File, referred}
+use Rattle.rules.specs.Places.{firstOf, placesAt}
+use Rattle.rules.specs.Words.{headWords}
+use Rattle.records.specs.Raw.{rawOf}
 use Rattle.records.specs.Rows.{idAt, idsIn}
-use Rattle.records.specs.Stage.{Ready, withDerivations}
+use Rattle.records.specs.Stage.{withDerivations}
 use Rattle.records.proofs.RawLaws.{raw-id}
 use Rattle.records.proofs.SaidLaws.{named-total, derived-total, located-total}
 use Rattle.reading.specs.declared.Counts.{Counts}
 use Rattle.reading.specs.declared.FileRead.{FileRead}
-use Rattle.reading.specs.declared.FileRead.the-variants.{Is, Refused}
+use Rattle.reading.specs.declared.FileRead.the-variants.{Refused}
 use Rattle.reading.specs.Parts.{kids, Standing, Before, LastBefore, After, shownOf, fileBy, fromReferences, toldFile, toldSpot, Has}
-use Rattle.reading.proofs.SpotLaws.{there, not-there, has-first, spot-is, SpotIs, boxes-all, boxes-joined}
+use Rattle.reading.proofs.SpotLaws.{has-first}
 use Rattle.reading.proofs.TableLaws.{raw-head}
 use Rattle.reading.proofs.ToldLaws.{refuse-bind}
 

@@ -1,16 +1,12 @@
 -- The table before anything is read, and its first words. Assumes nothing.
-use Prim.Native.Nat.{ℕ, _+_, _≤_}
-use native.Mathlib.Omega.{arith}
-use mathlib.Core.Path.{_≡_, refl, sym, ap, _∙_}
+use Prim.Native.Nat.{ℕ, _+_}
+use mathlib.Core.Path.{_≡_, refl}
 use mathlib.Core.List.{List, [], _∷_, _++_}
-use lib.ListN.{length, replicate, drop, set}
-use lib.Seq.{drop-at}
+use lib.ListN.{replicate, set}
 use Rattle.contents.specs.File.{File}
 use Rattle.rules.specs.Places.{Places}
 use Rattle.rules.specs.Words.{region, joinAll, propertiesFrom}
-use Rattle.records.specs.Raw.{rawOf, recordsBy, unread, Bounded, associationRows, targetRows, extentRows}
-use Rattle.records.specs.Stage.{Kept}
-use Rattle.records.proofs.RawLaws.{raw-length}
+use Rattle.records.specs.Raw.{rawOf, recordsBy, unread, associationRows, targetRows, extentRows}
 
 -- rawOf
 pub raw-unread : (pl : Places) → rawOf [] pl unread ≡ replicate 11280 0
@@ -21,10 +17,3 @@ raw-unread pl = refl
 pub raw-head : (pl : Places) (f : File) (x : List ℕ) (a b c d e g h i : ℕ) → set (set (set (set (set (set (set (set (rawOf [] pl f ++ x) 0 a) 1 b) 2 c) 3 d) 4 e) 5 g) 6 h) 7 i ≡ rawOf (a ∷ b ∷ c ∷ d ∷ e ∷ g ∷ h ∷ i ∷ []) pl f ++ x
 unfolding rawOf region
 raw-head pl f x a b c d e g h i = refl
-
--- Kept
-pub kept-same : (t : List ℕ) → Kept t t
-kept-same t = record { same-length = refl; past = refl }
-
-pub kept-on : (t u v : List ℕ) → Kept t u → Kept u v → Kept t v
-kept-on t u v a b = record { same-length = b .same-length ∙ a .same-length; past = b .past ∙ a .past }

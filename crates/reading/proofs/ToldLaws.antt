@@ -104,10 +104,6 @@ shown-ok (ok a) k l e = (a, refl, (let q : length (a .properties) ≡ k = cc in 
 shown-ok (refuse n p) k l e = let z : _≡_ {A = ℕ} 0 1 = cc in absurd (omega arith)
 
 -- toldReferences
-pub references-refused : (m : Answer (List Derivation)) (r : Refusal) → toldReferences m ≡ references.Refused r → m ≡ refuse (r .number) (r .place)
-unfolding toldReferences
-references-refused m r e = told-refused toldReferences references.Refused (λ n p. refl) (λ r q e. cc) (λ a r e. let z : _≡_ {A = ℕ} 0 1 = cc in absurd (omega arith)) m r e
-
 pub references-ok : (m : Answer (List Derivation)) (k : ℕ) → toldReferences m ≡ references.Targets k → (a : (List Derivation)) × (m ≡ ok a) × (targetsIn a ≡ k)
 unfolding toldReferences
 references-ok (ok a) k e = (a, refl, (let q : targetsIn a ≡ k = cc in q))

@@ -2,14 +2,13 @@
 use Prim.Native.Nat.{ℕ, _+_, _-_, _≤_, _<_}
 use native.Mathlib.Omega.{arith}
 use mathlib.Core.Path.{_≡_, refl, sym, ap, _∙_, subst}
-use mathlib.Core.List.{List, [], _∷_, _++_, append-assoc}
+use mathlib.Core.List.{List, [], _++_, append-assoc}
 use mathlib.Core.Logic.{_⊎_, inl, inr}
 use mathlib.Core.Bool.{Bool, true, false}
 use lib.ListN.{length, getD, take, drop, replicate, length-take, length-drop, length-append, length-replicate}
 use lib.Seq.{take-all, drop-at}
 use lib.Dec.{leb, ltb}
 use borrow.Author.Tests.{le-leb, lt-leb, le-ltb}
-use Rattle.fields.specs.Choice.{pick}
 use Rattle.fields.specs.Field.{beAt}
 use Rattle.fields.proofs.FieldLaws.{pick-yes, pick-no}
 use Rattle.boxes.specs.Answer.{Answer, ok, refuse, check, _>>_}
@@ -39,12 +38,12 @@ use Rattle.contents.specs.declared.HdlrRead.the-variants as hdlr-read
 use Rattle.contents.specs.declared.PitmRead.the-variants as pitm-read
 use Rattle.contents.specs.declared.FullRead.the-variants as full-read
 use Rattle.contents.proofs.FullLaws.{full-here, full-gone}
-use Rattle.forms.specs.Form.{Form, whole, front}
+use Rattle.forms.specs.Form.{whole, front}
 use Rattle.table.specs.declared.ItemId.{ItemId}
 use Rattle.rules.specs.Places.{Places, placesAt, placesIn}
 use Rattle.rules.specs.Words.{headWords}
 use Rattle.table.specs.Clear.{cleared}
-use Rattle.records.specs.Raw.{rawOf, unread}
+use Rattle.records.specs.Raw.{rawOf}
 use Rattle.records.specs.Stage.{Kept, Ready, withItems}
 use Rattle.items.specs.Told.{toldItems, ItemsLeft}
 use Rattle.items.specs.declared.ItemsRead.the-variants as items-read

@@ -3,24 +3,6 @@
 ghost use mathlib.Core.Path.{_≡_};
 ghost use lib.ListN.{length};
 
-fn read_number() -> u32 {
-    let mut b = [0u8; 4];
-    io::read_full(0, &mut b);
-    fields::be32(&b, 0)
-}
-
-fn read_long() -> u64 {
-    let mut b = [0u8; 8];
-    io::read_full(0, &mut b);
-    fields::be64(&b, 0)
-}
-
-fn name_room() -> [u8; 256]
-    ensures { λ r. ⌜ 256 ≡ length r ⌝ }
-{
-    [0; 256]
-}
-
 // A table in which something is left from before.
 fn used_table() -> [u32; 11280]
     ensures { λ r. ⌜ 11280 ≡ length r ⌝ }
@@ -28,30 +10,26 @@ fn used_table() -> [u32; 11280]
     [7; 11280]
 }
 
-fn print_name() {
-    let n = read_number() as usize;
-    let mut name = name_room();
-    if n <= 256 {
-        io::read_full(0, &mut name[..n]);
-        io::write_all(1, b"# ");
-        io::write_all(1, &name[..n]);
-        io::write_all(1, b"\n");
-    }
+fn print_name(name: &[u8]) {
+    io::write_all(1, b"# ");
+    io::write_all(1, name);
+    io::write_all(1, b"\n");
 }
 
 fn next_file(table: &mut [u32]) {
-    print_name();
-    let total = read_long();
-    let n = read_number() as usize;
-    let mut head = io::large_buffer();
-    if n <= 65536 {
-        io::read_full(0, &mut head[..n]);
-        lines::print_listing(&head[..n], total, table);
-    }
+    let letters = heads::read_number();
+    let mut name = heads::name_room();
+    let n = heads::read_bytes(&mut name, letters);
+    print_name(&name[..n]);
+    let total = heads::read_long();
+    let bytes = heads::read_number();
+    let mut head = heads::head_room();
+    let m = heads::read_bytes(&mut head, bytes);
+    lines::print_listing(&head[..m], total, table);
 }
 
 fn main() {
-    let count = read_number();
+    let count = heads::read_number();
     let mut table = used_table();
     let mut i: u32 = 0;
     while i < count {

@@ -4,3 +4,6 @@ pub mod RawLaws
 pub mod RowLaws
 pub mod SaidLaws
 pub mod SetsLaws
+pub mod IdLaws
+pub mod KeptLaws
+pub mod BoundLaws

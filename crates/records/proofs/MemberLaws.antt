@@ -9,6 +9,7 @@ use lib.ListN.{length, getD}
 use lib.Dec.{eqb}
 use borrow.Author.Tests.{eq-eqb, ne-eqb, eqb-false}
 use Rattle.fields.specs.Lists.{member}
+use Rattle.fields.proofs.TestLaws.{or-neither, member-at}
 use Rattle.records.specs.Rows.{Distinct}
 
 -- _||_
@@ -16,16 +17,7 @@ or-true : (a : Bool) → (a || true) ≡ true
 or-true true = refl
 or-true false = refl
 
-or-neither : (a b : Bool) → (a || b) ≡ false → (a ≡ false) × (b ≡ false)
-or-neither true b e = let z : _≡_ {A = ℕ} 0 1 = cc in absurd (omega arith)
-or-neither false b e = (refl, e)
-
 -- member
-pub member-at : (x : ℕ) (l : List ℕ) (r : ℕ) → r < length l → getD l r 0 ≡ x → member x l ≡ true
-member-at x [] r h e = absurd (not-suc-le-zero h)
-member-at x (y ∷ l) zero h e = rw (eq-eqb x y (sym e))
-member-at x (y ∷ l) (suc r) h e = rw (member-at x l r (le-of-suc-le-suc h) e) (or-true (eqb x y))
-
 pub member-none : (x : ℕ) (l : List ℕ) → ((k : ℕ) → k < length l → getD l k 0 ≡ x → ⊥) → member x l ≡ false
 member-none x [] h = refl
 member-none x (y ∷ l) h = rw (ne-eqb x y (λ q. h 0 (omega arith) (sym q))) (member-none x l (λ k m q. h (suc k) (omega arith) q))

@@ -22,12 +22,13 @@ use Rattle.contents.specs.File.{File}
 use Rattle.rules.specs.Joined.{derivedFrom, rowOf, noItem, itemAt}
 use Rattle.rules.specs.Places.{Places}
 use Rattle.rules.specs.Words.{joinAll, region, propertiesFrom, associationWord}
+use Rattle.fields.proofs.TestLaws.{member-at}
 use Rattle.records.specs.Raw.{addItem, addLocation, addProperty, addNamed, addDerivation, Bounded, namedWords, derivedWords, placeWords, recordOf, recordsBy, extentRow, extentRows, associationRows, targetRows, rawOf}
 use Rattle.records.specs.Rows.{idAt, Distinct, FoundIs}
 use Rattle.records.specs.declared.FoundRow.the-variants.{At, Nothing}
 use Rattle.table.specs.declared.ItemRow.{ItemRow}
 use Rattle.records.proofs.JoinLaws.{join-snoc, join-length, join-getD, join-sets}
-use Rattle.records.proofs.MemberLaws.{member-at, member-none, none-member, distinct-place}
+use Rattle.records.proofs.MemberLaws.{member-none, none-member, distinct-place}
 use Rattle.records.proofs.SaidLaws.{namedIn, named-none, derived-none, place-none, named-last, named-other, derived-last, derived-other, place-last, place-other}
 use Rattle.records.proofs.SetsLaws.{sets-first, sets-from, sets-over, getD-from, zeros, region-length, region-sets, region-add, region-zeros, region-set-past, region-front}
 
@@ -266,8 +267,8 @@ module _ (hw : List ℕ) (pl : Places) (x : List ℕ) (small : length hw ≤ 16)
 pub id-at : (is : List Item) (r : ℕ) → getD (idsOf is) r 0 ≡ getD is r noItem .id
 id-at is r = List·getD-map (λ (i : Item). i .id) is r noItem
 
-ids-length : (is : List Item) → length (idsOf is) ≡ length is
-ids-length is = length-map is (λ (i : Item). i .id)
+pub ids-long : (is : List Item) → length (idsOf is) ≡ length is
+ids-long is = length-map is (λ (i : Item). i .id)
 
 -- recordsBy: where what is said of one ID, y, changes from F to G, the change is a run of stores in the one row that has it
 pub records-change : (F G : Item → List ℕ) → ((i : Item) → length (F i) ≡ 16) → (y k : ℕ) (vs : List ℕ)
@@ -275,7 +276,7 @@ pub records-change : (F G : Item → List ℕ) → ((i : Item) → length (F i) 
     → (is : List Item) (r : ℕ) → Distinct (idsOf is) → r < length is → getD (idsOf is) r 0 ≡ y
     → joinAll G is ≡ sets (joinAll F is) (16 * r + k) vs
 records-change F G sized y k vs here other l is r d h e =
-    let n = ids-length is in
+    let n = ids-long is in
     join-sets F 16 sized G noItem is r k vs h l (here (getD is r noItem) (sym (id-at is r) ∙ e))
     (λ j m apart. other (getD is j noItem) (λ q. apart (distinct-place (idsOf is) j r d (omega arith) (omega arith) (id-at is j ∙ q ∙ sym e))))
 
@@ -445,12 +446,12 @@ module _ (hw : List ℕ) (pl : Places) (x : List ℕ) (small : length hw ≤ 16)
       → (member id (idsOf (f .items)) ≡ true) × (getD (idsOf (f .items)) (row .0) 0 ≡ id)
   found-listed id row g =
       let e : getD (idsOf (f .items)) (row .0) 0 ≡ id = sym (raw-id (row .0) (g .0)) ∙ g .1 in
-      let n = ids-length (f .items) in
+      let n = ids-long (f .items) in
       (member-at id (idsOf (f .items)) (row .0) (omega arith) e, e)
 
   pub found-nothing : (id : ℕ) → FoundIs (rawOf hw pl f ++ x) (length (f .items)) id Nothing → member id (idsOf (f .items)) ≡ false
   found-nothing id g =
-      let n = ids-length (f .items) in
+      let n = ids-long (f .items) in
       member-none id (idsOf (f .items)) (λ k l q. let m : k < length (f .items) = omega arith in g k m (raw-id k m ∙ q))
 
 -- rowOf
@@ -459,5 +460,5 @@ unfolding rowOf pick
 distinct-row [] r id d e h = absurd (not-suc-le-zero h)
 distinct-row (i ∷ is) zero id d e h = rw (eq-eqb (i .id) id e)
 distinct-row (i ∷ is) (suc r) id d e h =
-    let n = ids-length is in
+    let n = ids-long is in
     rw (ne-eqb (i .id) id (λ q. none-member (i .id) (idsOf is) (d .0) r (omega arith) (e ∙ sym q)), distinct-row is r id (d .1) e (le-of-suc-le-suc h))

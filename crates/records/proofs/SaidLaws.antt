@@ -3,7 +3,7 @@ use Prim.Native.Nat.{ℕ, _+_}
 use native.Mathlib.Nat.{zero-add}
 use native.Mathlib.Omega.{arith}
 use mathlib.Core.Path.{_≡_, refl, sym, ap, _∙_}
-use mathlib.Core.List.{List, [], _∷_, _++_, map, map-append}
+use mathlib.Core.List.{List, [], _∷_, _++_, map}
 use mathlib.Core.Bool.{false}
 use lib.ListN.{length}
 use lib.Dec.{eqb}
@@ -16,6 +16,7 @@ use Rattle.contents.specs.Ipma.{Named, associationsIn}
 use Rattle.contents.specs.Iref.{Derivation, derivedIn, targetsIn}
 use Rattle.rules.specs.Joined.{locatedAt, namedFor, derivedFrom}
 use Rattle.rules.specs.Words.{Group, firstIn, totalOf, namedGroups, derivedGroups, locatedGroups}
+use Rattle.contents.proofs.SumLaws.{located-in}
 use Rattle.records.specs.Raw.{namedWords, derivedWords, placeWords}
 use Rattle.records.proofs.MemberLaws.{member-neither, member-last, member-other}
 
@@ -127,10 +128,6 @@ located-last ls l e = at-last (λ (m : Location). m .id) (λ (m : Location). m) 
 pub located-other : (ls : List Location) (l : Location) (x : ℕ) → (x ≡ l .id → ⊥) → locatedAt (ls ++ (l ∷ [])) x ≡ locatedAt ls x
 unfolding locatedAt
 located-other ls l x h = at-other (λ (m : Location). m .id) (λ (m : Location). m) locatedAt (λ a es x. refl) ls l x h
-
--- locatedIn
-located-in : (ls : List Location) (l : Location) → locatedIn (ls ++ (l ∷ [])) ≡ locatedIn ls ++ (l .id ∷ [])
-located-in ls l = map-append (λ (m : Location). m .id) ls (l ∷ [])
 
 -- placeWords
 pub place-none : (x : ℕ) → placeWords [] x ≡ 0 ∷ 0 ∷ 0 ∷ 0 ∷ 0 ∷ []

@@ -4,20 +4,18 @@ use native.Mathlib.Omega.{arith}
 use mathlib.Core.Path.{_≡_, refl, sym, ap, _∙_, subst}
 use mathlib.Core.List.{List, [], _∷_, _++_}
 use mathlib.Core.Bool.{Bool, true, false, not}
-use lib.ListN.{length, getD, take, drop, length-take, take-append-drop}
+use lib.ListN.{length, getD, take, drop}
 use lib.Dec.{eqb}
 use borrow.Author.Tests.{eq-eqb}
 use Rattle.fields.specs.Choice.{pick}
 use Rattle.boxes.specs.Answer.{Answer, ok, refuse, _>>=_}
 use Rattle.boxes.specs.Types.{dimg}
-use Rattle.boxes.specs.Box.{headOf, bodyOf}
 use Rattle.boxes.specs.Children.{contain}
 use Rattle.boxes.specs.Header.{childAt}
 use Rattle.boxes.specs.declared.Child.the-variants as child
 use Rattle.boxes.specs.declared.Refusal.{Refusal}
 use Rattle.boxes.proofs.AnswerLaws.{bind-ok, ok-inj}
-use Rattle.boxes.proofs.ContainLaws.{childrenFrom, Stood, stood, from-box, from-bad, from-spare, from-end}
-use Rattle.boxes.proofs.WhereLaws.{body-part}
+use Rattle.boxes.proofs.ContainLaws.{childrenFrom, Stood, stood, from-box, from-bad, from-spare, from-end, stood-body}
 use Rattle.forms.specs.Form.{whole}
 use Rattle.contents.specs.Iref.{Derivation, targetsIn, reference-form, reference}
 use Rattle.contents.specs.File.{File}
@@ -25,43 +23,25 @@ use Rattle.rules.specs.Places.{Places}
 use Rattle.records.specs.Raw.{rawOf}
 use Rattle.records.specs.Rows.{idAt, idsIn, Distinct}
 use Rattle.records.specs.Stage.{Kept, Ready, withDerivations}
+use Rattle.contents.proofs.SumLaws.{targets-more}
+use Rattle.records.proofs.IdLaws.{ids-same}
+use Rattle.records.proofs.KeptLaws.{kept-same, kept-on}
 use Rattle.references.specs.Told.{toldReferences}
 use Rattle.references.specs.Steps.{Marked, stepped, Stored, Put, ChildrenLeft}
 use Rattle.references.specs.declared.ReferencesRead.{ReferencesRead}
 use Rattle.references.specs.declared.ReferencesRead.the-variants as read
-use Rattle.references.proofs.IdLaws.{ids-same}
-use Rattle.references.proofs.KeptLaws.{kept-same, kept-on}
-use Rattle.references.proofs.PutLaws.{targets-more}
 use Rattle.references.proofs.StoredLaws.{stored-ids, stored-marked, stored-raw}
 
 -- toldReferences: what the code's value says
 pub references-refused : (a : Answer (List Derivation)) (r : Refusal) → toldReferences a ≡ read.Refused r → a ≡ refuse (r .number) (r .place)
 unfolding toldReferences
 references-refused (ok ds) r e = let z : _≡_ {A = ℕ} 0 1 = cc in absurd (omega arith)
-references-refused (refuse n p) r e =
-    let k : _≡_ {A = Refusal} (record { number = n; place = p }) r = cc in
-    let i : n ≡ r .number = ap (λ (x : Refusal). x .number) k in
-    let j : p ≡ r .place = ap (λ (x : Refusal). x .place) k in
-    rw (i, j)
+references-refused (refuse n p) r e = let k : r ≡ record { number = n; place = p } = cc in rw k
 
 references-are : (a : Answer (List Derivation)) (k : ℕ) → toldReferences a ≡ read.Targets k → (ds : List Derivation) × (a ≡ ok ds) × (k ≡ targetsIn ds)
 unfolding toldReferences
 references-are (ok ds) k e = let i : targetsIn ds ≡ k = cc in (ds, refl, sym i)
 references-are (refuse n p) k e = let z : _≡_ {A = ℕ} 0 1 = cc in absurd (omega arith)
-
--- Stood: the content of a child, as the part of the container's content that is lent
-pub child-body : (s : List ℕ) (at kind body end : ℕ) → at ≤ length s → Stood s at kind body end → take (end - body) (drop body s) ≡ bodyOf (take (end - at) (drop at s))
-child-body s at kind body end h x =
-    let b : List ℕ = take (end - at) (drop at s) in
-    let post : List ℕ = drop (end - at) (drop at s) in
-    let l : length (take at s) ≡ at = rw length-take (omega arith) in
-    let j : take at s ++ (b ++ post) ≡ s = rw (take-append-drop (end - at) (drop at s)) (take-append-drop at s) in
-    let i : length b - headOf b ≡ end - body = omega (arith, x .its-body, x .its-end) in
-    let k : length (take at s) + headOf b ≡ body = omega (arith, x .its-body) in
-    sym (ap (λ (v : List ℕ). take (end - body) (drop body v)) j)
-    ∙ sym (ap (λ (m : ℕ). take m (drop body (take at s ++ (b ++ post)))) i)
-    ∙ sym (ap (λ (m : ℕ). take (length b - headOf b) (drop m (take at s ++ (b ++ post)))) k)
-    ∙ body-part (take at s) b post (x .box .header)
 
 module _ (s : List ℕ) (w place base n : ℕ) (t : List ℕ) where
   abbrev allOf : Answer (List Derivation)
@@ -134,7 +114,7 @@ module _ (s : List ℕ) (w place base n : ℕ) (t : List ℕ) where
       step =
           so .same
           ∙ from-box s at (reference (idsIn t n) w) place base (so .before) kind body end e
-          ∙ rw (there .its-kind, child-body s at kind body end (so .here) there)
+          ∙ rw (there .its-kind, stood-body s at kind body end there)
 
       -- read into the table v
       module _ (v : List ℕ) (isDimg : Bool) (y : isDimg ≡ eqb kind dimg) (keeps : Kept u v) (other : isDimg ≡ false → v ≡ u) (r : ReferencesRead) (x : Put w isDimg (base + at) content n used (so .before) u v r) where

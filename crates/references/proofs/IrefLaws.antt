@@ -19,12 +19,12 @@ use Rattle.records.specs.Raw.{rawOf}
 use Rattle.records.specs.Rows.{idsIn, Distinct}
 use Rattle.records.specs.Stage.{Ready}
 use Rattle.records.proofs.RawLaws.{raw-derived}
+use Rattle.records.proofs.IdLaws.{raw-ids}
+use Rattle.records.proofs.KeptLaws.{kept-same}
 use Rattle.references.specs.Told.{toldReferences, ReferencesLeft}
 use Rattle.references.specs.Steps.{ChildrenLeft}
 use Rattle.references.specs.declared.ReferencesRead.{ReferencesRead}
 use Rattle.references.specs.declared.ReferencesRead.the-variants as read
-use Rattle.references.proofs.IdLaws.{raw-ids}
-use Rattle.references.proofs.KeptLaws.{kept-same}
 
 -- references
 module _ (ids : List ℕ) (p base : ℕ) (s : List ℕ) where
@@ -54,7 +54,7 @@ module _ (s : List ℕ) (p base n : ℕ) (t : List ℕ) where
       → ChildrenLeft (contain (reference (idsIn t n) w) p (base + 4) [] (drop 4 s)) n t u → Tells u r
   tells-by v g h w e u r a left = (
     a ∙ sym (ap toldReferences (references-by (idsIn t n) p base s v g h w e)),
-    record { kept = left .kept; told = λ pl f x ds y o i j. left .told pl f x ds y o (rw (raw-ids pl f x n t (y .count) j) (sym (references-by (idsOf (f .items)) p base s v g h w e) ∙ i)) j },
+    record { kept = left .kept; told = λ pl f x ds y o i j. left .told pl f x ds y o (rw (raw-ids pl f x t n (y .count) j) (sym (references-by (idsOf (f .items)) p base s v g h w e) ∙ i)) j },
   )
 
 -- what read_references asks of the table, shown from what the stages before it leave
@@ -62,4 +62,4 @@ pub raw-fresh : (pl : Places) (f : File) (x : List ℕ) (n : ℕ) (t : List ℕ)
     → Distinct (idsIn t n) × ((k : ℕ) → k < n → getD t (16 + 16 * k + 6) 0 ≡ 0)
 unfolding derivedFrom
 raw-fresh pl f x n t r none e =
-    (rw (raw-ids pl f x n t (r .count) e) (r .distinct), λ k h. let c = r .count in rw e (raw-derived [] pl x (omega arith) f k (omega arith) ∙ ap (λ (ds : List Derivation). length (derivedFrom ds (getD (idsOf (f .items)) k 0))) none))
+    (rw (raw-ids pl f x t n (r .count) e) (r .distinct), λ k h. let c = r .count in rw e (raw-derived [] pl x (omega arith) f k (omega arith) ∙ ap (λ (ds : List Derivation). length (derivedFrom ds (getD (idsOf (f .items)) k 0))) none))

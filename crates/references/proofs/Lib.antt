@@ -1,5 +1,3 @@
-pub mod IdLaws
-pub mod KeptLaws
 pub mod TargetLaws
 pub mod ReferenceLaws
 pub mod PutLaws

@@ -2,7 +2,7 @@
 use Prim.Native.Nat.{ℕ, _+_, _*_, _<_, _≤_}
 use native.Mathlib.Omega.{arith}
 use mathlib.Core.Path.{_≡_, refl, sym, ap, _∙_, subst}
-use mathlib.Core.List.{List, [], _∷_, _++_}
+use mathlib.Core.List.{List, [], _∷_}
 use mathlib.Core.Bool.{Bool, true, false, not, _&&_, _||_}
 use lib.ListN.{length, getD}
 use lib.Seq.{sets}
@@ -19,35 +19,26 @@ use Rattle.contents.specs.Iref.{Derivation, derivedIn, targetsIn, reference-for
 use Rattle.records.specs.Rows.{idAt, idsIn, FoundIs}
 use Rattle.records.specs.Stage.{Kept}
 use Rattle.records.specs.declared.FoundRow.the-variants.{Nothing}
+use Rattle.contents.proofs.SumLaws.{targets-more}
+use Rattle.records.proofs.IdLaws.{row-listed, row-missing}
+use Rattle.records.proofs.KeptLaws.{kept-on, kept-sets}
 use Rattle.references.specs.Told.{toldReferences}
 use Rattle.references.specs.Steps.{Marked, stepped, targetsFrom, toldTargets, TargetsLeft, Stored, Put}
 use Rattle.references.specs.declared.ReferencesRead.{ReferencesRead}
 use Rattle.references.specs.declared.ReferencesRead.the-variants as read
 use Rattle.references.specs.declared.TargetsPut.the-variants as targets
-use Rattle.references.proofs.IdLaws.{row-member, found-no-member}
-use Rattle.references.proofs.KeptLaws.{kept-on, kept-sets}
 use Rattle.references.proofs.ReferenceLaws.{source-cut, source-unlisted, source-twice, count-cut, count-none, count-over, count-targets}
 
 -- toldTargets: what the code's value says of the bytes
 told-refused : (a : Answer (List ℕ)) (r : Refusal) → toldTargets a ≡ targets.Refused r → a ≡ refuse (r .number) (r .place)
 unfolding toldTargets
 told-refused (ok ts) r e = let z : _≡_ {A = ℕ} 0 1 = cc in absurd (omega arith)
-told-refused (refuse n p) r e =
-    let k : _≡_ {A = Refusal} (record { number = n; place = p }) r = cc in
-    let i : n ≡ r .number = ap (λ (x : Refusal). x .number) k in
-    let j : p ≡ r .place = ap (λ (x : Refusal). x .place) k in
-    rw (i, j)
+told-refused (refuse n p) r e = let k : r ≡ record { number = n; place = p } = cc in rw k
 
 told-done : (a : Answer (List ℕ)) → toldTargets a ≡ targets.Done → (ts : List ℕ) × (a ≡ ok ts)
 unfolding toldTargets
 told-done (ok ts) e = (ts, refl)
 told-done (refuse n p) e = let z : _≡_ {A = ℕ} 0 1 = cc in absurd (omega arith)
-
--- targetsIn
-pub targets-more : (ds : List Derivation) (d : Derivation) → targetsIn (ds ++ (d ∷ [])) ≡ targetsIn ds + length (d .targets)
-unfolding targetsIn
-targets-more [] d = omega arith
-targets-more (e ∷ ds) d = rw (targets-more ds d) (omega arith)
 
 -- a test that goes by whether the type is `dimg`
 pub dimg-fresh : (isDimg m : Bool) → isDimg ≡ true → (isDimg && m) ≡ false → m ≡ false
@@ -86,11 +77,11 @@ module _ (t : List ℕ) (n w p used : ℕ) (s : List ℕ) (isDimg : Bool) (befor
   module _ (l : w ≤ length s) (id : ℕ) (e : id ≡ beAt s 0 w) where
     pub put-source-unlisted : FoundIs t n id Nothing → (u : List ℕ) → Put w isDimg p s n used before t u (read.Refused (record { number = 11; place = p }))
     put-source-unlisted g u =
-        put-refused w isDimg p s n used before t u 11 p (source-unlisted (idsIn t n) w isDimg before p s l (rw (← e) (found-no-member t t n (λ k h. refl) id g)))
+        put-refused w isDimg p s n used before t u 11 p (source-unlisted (idsIn t n) w isDimg before p s l (rw (← e) (row-missing t n id g)))
 
   module _ (l : w ≤ length s) (row : ℕ) (in-rows : row < n) (its-id : idAt t row ≡ beAt s 0 w) where
     listed : member (beAt s 0 w) (idsIn t n) ≡ true
-    listed = row-member t n row (beAt s 0 w) in-rows its-id
+    listed = row-listed t n (beAt s 0 w) row in-rows its-id
 
     -- the mark of the row
     module _ (marked : Marked t n before) where

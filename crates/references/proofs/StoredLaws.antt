@@ -5,7 +5,7 @@ use native.Mathlib.Decide.{decLe}
 use mathlib.Core.Path.{_≡_, sym, ap, _∙_}
 use mathlib.Core.List.{List, [], _∷_, _++_, map-append}
 use mathlib.Core.Bool.{not}
-use lib.ListN.{length, getD}
+use lib.ListN.{length, getD, set}
 use lib.Seq.{sets, length-sets}
 use lib.Dec.{eqb}
 use borrow.Author.Tests.{ne-eqb}
@@ -22,8 +22,12 @@ use Rattle.records.specs.Stage.{Ready, withDerivations}
 use Rattle.records.proofs.MemberLaws.{member-last, member-other}
 use Rattle.records.proofs.RawLaws.{raw-id, raw-derivation}
 use Rattle.records.proofs.SetsLaws.{sets-below, sets-above, sets-in}
+use Rattle.records.proofs.IdLaws.{distinct-rows}
 use Rattle.references.specs.Steps.{Marked, Stored}
-use Rattle.references.proofs.IdLaws.{distinct-rows}
+
+-- sets: a run of two
+pub sets-two : (t : List ℕ) (a b x y : ℕ) → a ≡ b → set (set t (a + 5) x) (a + 6) y ≡ sets t (b + 5) (x ∷ y ∷ [])
+sets-two t a b x y e = let z : b + 6 ≡ suc (b + 5) = omega arith in rw (e, z)
 
 module _ (n used : ℕ) (before : List Derivation) (d : Derivation) (t u : List ℕ) (few : n ≤ 256) (room : 11280 ≤ length t) (x : Stored n used before d t u) where
   abbrev targets-in : List ℕ

@@ -19,11 +19,19 @@ use Rattle.records.specs.Stage.{Kept}
 use Rattle.records.specs.declared.FoundRow.the-variants.{At, Nothing}
 use Rattle.records.proofs.SetsLaws.{sets-below, sets-append}
 use Rattle.table.specs.declared.ItemRow.{ItemRow}
+use Rattle.records.proofs.IdLaws.{row-listed, row-missing}
+use Rattle.records.proofs.KeptLaws.{kept-sets}
 use Rattle.references.specs.Steps.{targetsFrom, toldTargets, TargetsLeft}
 use Rattle.references.specs.declared.TargetsPut.{TargetsPut}
 use Rattle.references.specs.declared.TargetsPut.the-variants as targets
-use Rattle.references.proofs.IdLaws.{found-member, found-no-member}
-use Rattle.references.proofs.KeptLaws.{kept-sets}
+
+-- FoundIs, in a table whose IDs are those of t
+module _ (t u : List ℕ) (n : ℕ) (same : (k : ℕ) → k < n → idAt u k ≡ idAt t k) (id : ℕ) where
+  pub found-member : (row : ItemRow) → FoundIs u n id (At row) → member id (idsIn t n) ≡ true
+  found-member row g = row-listed t n id (row .0) (g .0) (sym (same (row .0) (g .0)) ∙ g .1)
+
+  pub found-no-member : FoundIs u n id Nothing → member id (idsIn t n) ≡ false
+  found-no-member g = row-missing t n id (λ k m q. g k m (same k m ∙ q))
 
 -- target-form, as one of many
 module _ (ids : List ℕ) (w p : ℕ) (s : List ℕ) where

@@ -4,7 +4,7 @@ use native.Mathlib.Nat.{mul-pos}
 use native.Mathlib.Omega.{arith}
 use mathlib.Core.Path.{_≡_, refl, sym, subst, _∙_}
 use mathlib.Core.List.{List, [], _∷_, map}
-use mathlib.Core.Bool.{true, false}
+use mathlib.Core.Bool.{Bool, true, false}
 use mathlib.Core.Logic.{⊎-elim}
 use lib.ListN.{length, length-map}
 use lib.Dec.{eqb}
@@ -13,7 +13,7 @@ use Rattle.fields.specs.Choice.{pick}
 use Rattle.fields.specs.Lists.{All}
 use Rattle.fields.proofs.FieldLaws.{both, pick-yes}
 use Rattle.fields.proofs.TestLaws.{untrue, and-both, or-either}
-use Rattle.boxes.specs.Answer.{Answer, ok, refuse}
+use Rattle.boxes.specs.Answer.{Answer, ok, refuse, check, _>>=_, _>>_}
 use Rattle.boxes.specs.Types.{iden, grid, coded, derived, image}
 use Rattle.boxes.proofs.AnswerLaws.{bind-ok, then-ok, check-ok, ok-inj}
 use Rattle.forms.specs.Form.{whole-sound}
@@ -37,9 +37,18 @@ pub shaped-drawn : (r : Recipe) (is : List ℕ) → Shaped r is → r ≡ Opaque
 shaped-drawn r is h e = rw e at h
 
 -- nothingIn
-pub nothing-in : (l : List ℕ) → nothingIn l ≡ true → l ≡ []
-nothing-in [] e = refl
-nothing-in (x ∷ xs) e = untrue e
+module _ {A : Type 0} where
+  pub nothing-in : (l : List A) → nothingIn l ≡ true → l ≡ []
+  nothing-in [] e = refl
+  nothing-in (x ∷ xs) e = untrue e
+
+  pub nothing-none : (l : List A) → length l ≡ 0 → nothingIn l ≡ true
+  nothing-none [] e = refl
+  nothing-none (x ∷ xs) e = absurd (omega arith)
+
+  pub nothing-some : (l : List A) → (length l ≡ 0 → ⊥) → nothingIn l ≡ false
+  nothing-some [] n = absurd (n refl)
+  nothing-some (x ∷ xs) n = refl
 
 -- allImages
 abbrev pub Images : File → List ℕ → Type 0
@@ -49,6 +58,15 @@ all-images : (f : File) (ts : List ℕ) → allImages f ts ≡ true → Images f
 unfolding allImages
 all-images f [] e = tt
 all-images f (t ∷ ts) e = let k = and-both (image (itemAt f (rowOf t (f .items)) .type)) (allImages f ts) e in (k .0, all-images f ts (k .1))
+
+-- a body that is read by w and tested, before it is a recipe
+pub body-read : {A : Type 0} (m : Answer (List ℕ)) (w : List ℕ → Answer A) (n p : ℕ) (t : A → Bool) (K : A → Recipe) (r : Recipe)
+    → (m >>= (λ b. w b >>= (λ a. check n p (t a) >> ok (K a)))) ≡ ok r → (b : List ℕ) × (m ≡ ok b) × (a : A) × (w b ≡ ok a) × (t a ≡ true) × (K a ≡ r)
+body-read m w n p t K r e =
+    let x = bind-ok _ _ r e in
+    let y = bind-ok _ _ r (x .2) in
+    let z = then-ok _ _ r (y .2) in
+    (x .0, x .1, y .0, y .1, check-ok n p _ (z .0) (z .1), ok-inj _ _ (z .2))
 
 module _ (total : ℕ) (head : List ℕ) (f : File) (item : Item) where
   abbrev ins : List ℕ
@@ -67,23 +85,17 @@ module _ (total : ℕ) (head : List ℕ) (f : File) (item : Item) where
   tiles-fed : (r : Recipe) → tilesOf total head f item ≡ ok r → Fed r
   unfolding tilesOf
   tiles-fed r e =
-      let x = bind-ok _ _ r e in
-      let y = bind-ok _ _ r (x .2) in
-      let z = then-ok _ _ r (y .2) in
-      let g = y .0 in
-      let n : length ins ≡ g .rows * g .columns = eqb-true _ _ (check-ok 17 _ _ (z .0) (z .1)) in
-      let some = grid-some _ g (whole-sound grid-form 0 _ g (y .1)) in
-      subst Fed (ok-inj (Tiles g) r (z .2)) (n, rw n (mul-pos (some .0) (some .1)))
+      let x = body-read _ _ 17 _ _ Tiles r e in
+      let g = x .2 in
+      let n : length ins ≡ g .rows * g .columns = eqb-true _ _ (x .4) in
+      let some = grid-some _ g (whole-sound grid-form 0 _ g (x .3)) in
+      subst Fed (x .5) (n, rw n (mul-pos (some .0) (some .1)))
 
   layers-fed : (r : Recipe) → layersOf total head f item ≡ ok r → Fed r
   unfolding layersOf
   layers-fed r e =
-      let x = bind-ok _ _ r e in
-      let y = bind-ok _ _ r (x .2) in
-      let z = then-ok _ _ r (y .2) in
-      let o = y .0 in
-      let n = iovl-offsets _ _ o (whole-sound (iovl-form (length ins)) 0 _ o (y .1)) in
-      subst Fed (ok-inj (Layers o) r (z .2)) (n, ltb-true 0 _ (check-ok 17 _ _ (z .0) (z .1)))
+      let x = body-read _ _ 17 _ _ Layers r e in
+      subst Fed (x .5) (iovl-offsets _ _ (x .2) (whole-sound (iovl-form (length ins)) 0 _ (x .2) (x .3)), ltb-true 0 _ (x .4))
 
   -- recipeFor: the inputs of an image item are as many as its recipe says, and images
   recipe-for : image (item .type) ≡ true → (r : Recipe) → recipeFor total head f item ≡ ok r → Fed r × Images f ins

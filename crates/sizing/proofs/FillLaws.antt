@@ -5,7 +5,7 @@ use native.Mathlib.Numerals.{towards-suc}
 use native.Mathlib.Omega.{arith}
 use mathlib.Core.Path.{_≡_, sym, ap, _∙_, subst}
 use mathlib.Core.List.{List, _++_}
-use mathlib.Core.Bool.{Bool, true, false}
+use mathlib.Core.Bool.{true, false}
 use lib.ListN.{length, getD, set}
 use lib.Seq.{sets}
 use Rattle.fields.proofs.FieldLaws.{pick-yes, pick-no, both}
@@ -24,7 +24,7 @@ use Rattle.rules.specs.Derivations.{declaredIn, sceneOf}
 use Rattle.rules.specs.Words.{headWords, sizeWords, wordsOf}
 use Rattle.rules.proofs.SceneLaws.{declared-at, turns-at}
 use Rattle.records.specs.Raw.{rawOf}
-use Rattle.views.specs.View.{TableOf, AllPlaced, recordWord, idOf}
+use Rattle.views.specs.View.{TableOf, AllPlaced, idOf}
 use Rattle.views.proofs.FillLaws.{filledTo, filled-none, filled-next, filled-all, filled-view}
 use Rattle.views.proofs.ViewLaws.{read-view}
 use Rattle.sizing.specs.Drawn.{sizesFor, sizesIn}
@@ -34,10 +34,6 @@ pub sizes-stored : (t : List ℕ) (a r : ℕ) (s o : Size) (d : ℕ) → a ≡ 1
     → set (set (set (set (set t (a + 10) (s .wide)) (a + 10 + 1) (s .high)) (a + 10 + 2) (o .wide)) (a + 10 + 3) (o .high)) (a + 10 + 4) d ≡ sets t (26 + 16 * r) (sizesFor s o d)
 unfolding sizesFor
 sizes-stored t a r s o d e = let q : a + 10 ≡ 26 + 16 * r = omega arith in rw q (simp towards-suc)
-
--- whether a row holds an image item, by the table's word for its type
-pub image-told : {t head : List ℕ} {pl : Places} {f : File} → TableOf t head pl f → (r : ℕ) → r < length (f .items) → (w : ℕ) (b : Bool) → w ≡ recordWord t r 1 → b ≡ image w → image (itemAt f r .type) ≡ b
-image-told v r h w b e q = ap image (sym (e ∙ v .type r h)) ∙ sym q
 
 -- sizesIn: what is put for an image item, and for an opaque one
 module _ (f : File) (r d : ℕ) where

@@ -1,15 +1,13 @@
 -- Rule 20 for one picture, over a table that has sizes: the sizes of a row, those of a picture's inputs, and what its recipe makes of them. Assumes nothing.
 --   madeBy s p x    what rule 20 says of a picture whose recipe is read as x
 --   Feeds x is      the inputs `is` of a recipe that is read as x, where a first one is asked for
-use Prim.Native.Nat.{ℕ, zero, suc, _+_, _*_, _<_, _≤_}
-use native.Mathlib.Numerals.{add-one}
+use Prim.Native.Nat.{ℕ, _+_, _*_, _<_, _≤_}
 use native.Mathlib.Omega.{arith}
 use mathlib.Core.Path.{_≡_, refl, sym, ap, subst, _∙_}
-use mathlib.Core.List.{List, [], _∷_, map}
+use mathlib.Core.List.{List}
 use mathlib.Core.Bool.{Bool, true, false, _&&_}
 use lib.ListN.{length, getD, drop, length-map, drop-of-length-le}
 use lib.Dec.{leb}
-use Rattle.boxes.specs.Answer.{ok}
 use Rattle.boxes.specs.Types.{image}
 use Rattle.contents.specs.File.{File}
 use Rattle.pictures.specs.declared.Size.{Size}
@@ -23,10 +21,10 @@ use Rattle.rules.proofs.SceneLaws.{inputs-at, recipe-ok, inputs-fed}
 use Rattle.rules.specs.Places.{Places}
 use Rattle.views.specs.View.{TableOf, SizesAre, recordWord, idOf}
 use Rattle.views.proofs.LookupLaws.{row-listed}
-use Rattle.declared.proofs.NamedLaws.{left-from}
 use Rattle.derived.specs.Told.{toldBy, toldRecipe}
 use Rattle.derived.specs.declared.RecipeRead.{RecipeRead}
 use Rattle.derived.specs.declared.RecipeRead.the-variants as read
+use Rattle.fields.proofs.ListLaws.{left-from, map-at}
 use Rattle.sizing.specs.Drawn.{Drawn, tilesFit}
 
 -- SizesAre: the two sizes in a row
@@ -56,12 +54,6 @@ module _ (s : Scene) (z : Size) (is : List ℕ) where
   pub size-all : (j : ℕ) → length is ≤ j → allSize s z is ≡ allSize s z (drop j is) → true ≡ allSize s z is
   unfolding allSize
   size-all j h w = sym (w ∙ ap (allSize s z) (drop-of-length-le is {i = j} h))
-
--- map
-map-in : (g : ℕ → ℕ) (l : List ℕ) (j : ℕ) → j < length l → getD (map g l) j 0 ≡ g (getD l j 0)
-map-in g [] j h = absurd (omega arith)
-map-in g (x ∷ l) zero h = refl
-map-in g (x ∷ l) (suc j) h = map-in g l j (omega arith)
 
 -- sceneOf: as many pictures as items
 pub scene-many : (total : ℕ) (head : List ℕ) (f : File) → length (sceneOf total head f) ≡ length (f .items)
@@ -126,7 +118,7 @@ module _ (total : ℕ) (head : List ℕ) (f : File) (r : ℕ) (i : image (itemAt
   scene-inputs = ap length (inputs-at total head f r i) ∙ length-map (targetsOf f (idOf f r)) (λ (t : ℕ). rowOf t (f .items))
 
   pub scene-input : (j : ℕ) → j < length (targetsOf f (idOf f r)) → getD (pictureAt (sceneOf total head f) r .inputs) j 0 ≡ rowOf (getD (targetsOf f (idOf f r)) j 0) (f .items)
-  scene-input j l = ap (λ (is : List ℕ). getD is j 0) (inputs-at total head f r i) ∙ map-in (λ (t : ℕ). rowOf t (f .items)) (targetsOf f (idOf f r)) j l
+  scene-input j l = ap (λ (is : List ℕ). getD is j 0) (inputs-at total head f r i) ∙ map-at (λ (t : ℕ). rowOf t (f .items)) (targetsOf f (idOf f r)) j l
 
   -- k is the row of the input with number j, z the output size in that row
   pub scene-input-size : {t : List ℕ} {pl : Places} → TableOf t head pl f → SizesAre t (sceneOf total head f) → (j : ℕ) → j < length (targetsOf f (idOf f r)) → (k : ℕ) → k ≡ rowOf (getD (targetsOf f (idOf f r)) j 0) (f .items)

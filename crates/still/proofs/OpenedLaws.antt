@@ -1,14 +1,13 @@
 -- From reading and judging to the answer, 1 to 20, and to what is left in the table. Assumes nothing.
-use Prim.Native.Nat.{ℕ, _+_, _<_, _≤_}
+use Prim.Native.Nat.{ℕ, _+_, _≤_}
 use native.Mathlib.Omega.{arith}
-use mathlib.Core.Path.{_≡_, refl, sym, ap, _∙_, subst}
+use mathlib.Core.Path.{_≡_, refl, sym, ap, _∙_}
 use mathlib.Core.List.{List, _++_}
 use mathlib.Core.Bool.{Bool, true, false}
 use lib.ListN.{length, drop, replicate}
 use lib.Seq.{drop-at}
-use lib.Dec.{leb, ltb}
+use lib.Dec.{leb}
 use borrow.Author.Tests.{leb-true, le-leb, le-ltb}
-use Rattle.fields.specs.Choice.{pick}
 use Rattle.fields.proofs.FieldLaws.{pick-yes, pick-no}
 use Rattle.table.specs.Clear.{cleared}
 use Rattle.boxes.specs.Answer.{Answer, ok, refuse, check, _>>=_, _>>_}
@@ -21,12 +20,12 @@ use Rattle.rules.specs.Words.{tableWords, headWords, wordsOf}
 use Rattle.rules.specs.Questions.{accepted, opened, leftBy, after}
 use Rattle.records.specs.Raw.{rawOf}
 use Rattle.records.proofs.RawLaws.{raw-length}
-use Rattle.views.proofs.BoundLaws.{read-bounds}
 use Rattle.reading.specs.Parts.{toldFile, readAnswer, readWords}
 use Rattle.reading.specs.Parts as Parts
 use Rattle.reading.specs.declared.FileRead.the-variants as read
-use Rattle.judging.specs.Order.{toldJudged, Read, JudgedBy}
+use Rattle.judging.specs.Order.{toldJudged, Read}
 use Rattle.judging.specs.declared.Judged.the-variants as judge
+use Rattle.records.proofs.BoundLaws.{read-bounds}
 use Rattle.still.specs.Told.{toldOpened}
 use Rattle.still.specs.declared.Opened.the-variants.{Accepted, Refused}
 

@@ -1,9 +1,9 @@
 -- Properties over the table of an accepted file. Assumes nothing.
-use Prim.Native.Nat.{ℕ, zero, suc, _-_, _<_, _≤_}
+use Prim.Native.Nat.{ℕ, suc, _-_, _<_, _≤_}
 use native.Mathlib.Omega.{arith}
 use mathlib.Core.Path.{_≡_, refl, sym, ap, _∙_, subst}
 use mathlib.Core.List.{List, [], _∷_}
-use mathlib.Core.Bool.{Bool, true, false, _&&_}
+use mathlib.Core.Bool.{true, false, _&&_}
 use mathlib.Core.Logic.{⊎-elim}
 use lib.ListN.{length, getD, set}
 use lib.Dec.{leb, eqb}
@@ -18,17 +18,18 @@ use Rattle.boxes.proofs.AnswerLaws.{bind-ok, bind-refuse, then-ok, check-ok, ok
 use Rattle.boxes.specs.declared.Refusal.{Refusal}
 use Rattle.contents.specs.Iinf.{Item, idsOf}
 use Rattle.contents.specs.File.{File}
-use Rattle.rules.specs.Joined.{associationsOf, propertyAt, rowOf, noItem, itemAt}
+use Rattle.rules.specs.Joined.{associationsOf, propertyAt, rowOf, noItem}
 use Rattle.rules.specs.Places.{Places, placesIn}
-use Rattle.rules.specs.Questions.{opened, listed, noAssociation, Part, partOf, propertyIn, property}
+use Rattle.rules.specs.Questions.{opened, listed, noAssociation, partOf, propertyIn, property}
 use Rattle.records.specs.declared.FoundRow.{FoundRow}
 use Rattle.records.specs.declared.FoundRow.the-variants.{At, Nothing}
 use Rattle.views.specs.View.{TableOf, idOf}
 use Rattle.views.specs.Told.{toldRow}
+use Rattle.views.proofs.LookupLaws.{found}
 use Rattle.still.specs.Told.{toldOpened, indexIn, indexOf, toldAsked, toldPart, toldBy, toldFault}
 use Rattle.still.specs.declared.Opened.the-variants as opens
 use Rattle.still.specs.declared.PropertyAsked.the-variants as asked
-use Rattle.still.proofs.QuestionLaws.{Found, found, found-row, opened-refused}
+use Rattle.still.proofs.QuestionLaws.{opened-refused}
 
 -- rowOf: the item in its row
 row-holds : (is : List Item) (id : ℕ) → member id (idsOf is) ≡ true → getD is (rowOf id is) noItem .id ≡ id
@@ -54,27 +55,27 @@ told-none l x y h = sym (pick-yes _ _ (lt-ltb (length l) 2 h))
 module _ (f : File) (id k : ℕ) (x : FoundRow) (e : x ≡ toldRow id (f .items)) where
   pub index-none : x ≡ Nothing → (y : Refusal) → y .number ≡ 21 → y .place ≡ id → asked.Refused y ≡ toldAsked (indexIn f id k)
   unfolding toldAsked indexIn listed check _>>=_ _>>_
-  index-none q y n p = rw (found f id x e Nothing q, ← n, ← p)
+  index-none q y n p = rw (found id (f .items) x Nothing e q .0, ← n, ← p)
 
   module _ (r : ItemRow) (q : x ≡ At r) where
     pub row-is : idOf f (r .0) ≡ id
-    row-is = let w = found f id x e (At r) q in rw (← w .1) (row-holds (f .items) id (w .0))
+    row-is = let w = found id (f .items) x (At r) e q in rw (← w .1) (row-holds (f .items) id (w .0))
 
     pub index-under : k < 1 → (y : Refusal) → y .number ≡ 25 → y .place ≡ id → asked.Refused y ≡ toldAsked (indexIn f id k)
     unfolding toldAsked indexIn listed check _>>=_ _>>_
-    index-under h y n p = let w = found f id x e (At r) q in rw (w .0, lt-leb 1 k h, ← n, ← p)
+    index-under h y n p = let w = found id (f .items) x (At r) e q in rw (w .0, lt-leb 1 k h, ← n, ← p)
 
     pub index-over : 1 ≤ k → length (associationsOf f (idOf f (r .0))) < k → (y : Refusal) → y .number ≡ 25 → y .place ≡ id → asked.Refused y ≡ toldAsked (indexIn f id k)
     unfolding toldAsked indexIn listed check _>>=_ _>>_
     index-over h l y n p =
-        let w = found f id x e (At r) q in
+        let w = found id (f .items) x (At r) e q in
         let m : length (associationsOf f id) < k = subst (λ (i : ℕ). length (associationsOf f i) < k) row-is l in
         rw (w .0, le-leb 1 k h, lt-leb k (length (associationsOf f id)) m, ← n, ← p)
 
     pub index-at : 1 ≤ k → k ≤ length (associationsOf f (idOf f (r .0))) → (i : PropertyIndex) → i .0 ≡ getD (associationsOf f (idOf f (r .0))) (k - 1) noAssociation .index → asked.Is i ≡ toldAsked (indexIn f id k)
     unfolding toldAsked indexIn listed check _>>=_ _>>_
     index-at h l i j =
-        let w = found f id x e (At r) q in
+        let w = found id (f .items) x (At r) e q in
         let m : k ≤ length (associationsOf f id) = subst (λ (i : ℕ). k ≤ length (associationsOf f i)) row-is l in
         let o : i .0 ≡ getD (associationsOf f id) (k - 1) noAssociation .index = j ∙ ap (λ (i : ℕ). getD (associationsOf f i) (k - 1) noAssociation .index) row-is in
         rw (w .0, le-leb 1 k h, le-leb k (length (associationsOf f id)) m, ← o)
@@ -118,7 +119,7 @@ index-there t head pl f id k i v e =
 
 -- property
 module _ (total : ℕ) (head t : List ℕ) (id k : ℕ) where
-  property-refused : (y : Refusal) → toldAsked (indexOf (length t) total head id k) ≡ asked.Refused y → property (length t) total head id k ≡ refuse (y .number) (y .place)
+  pub property-refused : (y : Refusal) → toldAsked (indexOf (length t) total head id k) ≡ asked.Refused y → property (length t) total head id k ≡ refuse (y .number) (y .place)
   unfolding indexOf property _>>=_
   property-refused y e =
       ⊎-elim (λ h. rw h) (λ h. rw (h .1, property-by (placesIn total head) (h .0) id k, h .2))
@@ -133,7 +134,7 @@ module _ (total : ℕ) (head t : List ℕ) (id k : ℕ) where
   property-found i e = bind-ok _ _ (i .0) (asked-index _ i e)
 
   module _ (f : File) (i : ℕ) (o : opened (length t) total head ≡ ok f) (e : indexIn f id k ≡ ok i) where
-    property-is : property (length t) total head id k ≡ ok (partOf (placesIn total head) f i)
+    pub property-is : property (length t) total head id k ≡ ok (partOf (placesIn total head) f i)
     unfolding property _>>=_
     property-is = rw (o, property-by (placesIn total head) f id k, e)
 

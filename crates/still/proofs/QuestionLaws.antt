@@ -4,31 +4,27 @@ use native.Mathlib.Omega.{arith}
 use mathlib.Core.Path.{_≡_, refl, sym, ap, _∙_, subst}
 use mathlib.Core.List.{List, _++_}
 use mathlib.Core.Bool.{true, false}
-use lib.ListN.{length, getD, drop, length-map}
+use lib.ListN.{length, getD, drop}
 use borrow.Author.Tests.{leb-true}
-use Rattle.fields.specs.Lists.{member}
-use Rattle.fields.proofs.FieldLaws.{both}
 use Rattle.table.specs.declared.ItemRow.{ItemRow}
 use Rattle.table.specs.declared.ItemId.{ItemId}
 use Rattle.boxes.specs.Answer.{Answer, ok, refuse, check, _>>=_, _>>_}
 use Rattle.boxes.specs.Types.{image}
 use Rattle.boxes.proofs.AnswerLaws.{bind-ok, then-ok, check-ok, ok-inj}
 use Rattle.boxes.specs.declared.Refusal.{Refusal}
-use Rattle.contents.specs.Iinf.{Item, idsOf}
 use Rattle.contents.specs.File.{File}
-use Rattle.pictures.specs.declared.Size.{Size}
 use Rattle.pictures.specs.Scene.{Scene, pictureAt, outputOf}
 use Rattle.pictures.specs.Depth.{depth}
-use Rattle.rules.specs.Joined.{rowOf, itemAt}
-use Rattle.rules.specs.Places.{Places, placesIn}
-use Rattle.rules.specs.Derivations.{pictureOf, sceneOf}
+use Rattle.rules.specs.Joined.{itemAt}
+use Rattle.rules.specs.Places.{placesIn}
+use Rattle.rules.specs.Derivations.{sceneOf}
 use Rattle.rules.specs.Words.{tableWords, wordsOf}
 use Rattle.rules.specs.Questions.{accepted, opened, listed, pictured, verdictIn, verdict, sizeIn, size, leftBy, after}
 use Rattle.records.specs.declared.FoundRow.{FoundRow}
 use Rattle.records.specs.declared.FoundRow.the-variants.{At, Nothing}
-use Rattle.views.specs.View.{TableOf, SizesAre, recordWord}
+use Rattle.views.specs.View.{TableOf, SizesAre}
 use Rattle.views.specs.Told.{toldRow}
-use Rattle.views.proofs.LookupLaws.{row-listed}
+use Rattle.views.proofs.LookupLaws.{row-listed, found}
 use Rattle.rules.proofs.RuleLaws.{judged-each}
 use Rattle.rules.proofs.SceneLaws.{accepted-scene}
 use Rattle.views.proofs.ViewLaws.{accepted-both, words-view}
@@ -41,35 +37,23 @@ use Rattle.still.specs.declared.Pictured.the-variants as pictures
 use Rattle.still.specs.declared.Sized.the-variants as sizes
 use Rattle.still.proofs.OpenedLaws.{opened-is, after-is}
 
--- toldRow
-abbrev pub Found : ℕ → List Item → FoundRow → Type 0
-Found id is (At r) = (member id (idsOf is) ≡ true) × (rowOf id is ≡ r .0)
-Found id is Nothing = member id (idsOf is) ≡ false
-
-row-found : (id : ℕ) (is : List Item) → Found id is (toldRow id is)
-unfolding toldRow
-row-found id is = both (Found id is) (member id (idsOf is)) _ _ (λ m. (m, refl)) (λ m. m)
-
 -- pictured: x is what the lookup gives
 module _ (f : File) (id : ℕ) (x : FoundRow) (e : x ≡ toldRow id (f .items)) where
-  pub found : (y : FoundRow) → x ≡ y → Found id (f .items) y
-  found y q = subst (Found id (f .items)) (sym e ∙ q) (row-found id (f .items))
-
   pub picture-none : x ≡ Nothing → (y : Refusal) → y .number ≡ 21 → y .place ≡ id → pictures.Refused y ≡ toldPictured (pictured f id)
   unfolding toldPictured pictured listed check _>>=_ _>>_
-  picture-none q y n p = rw (found Nothing q, ← n, ← p)
+  picture-none q y n p = rw (found id (f .items) x Nothing e q .0, ← n, ← p)
 
   module _ (r : ItemRow) (q : x ≡ At r) where
     pub found-row : r .0 < length (f .items)
-    found-row = let w = found (At r) q in rw (w .1) at (row-listed (f .items) id (w .0))
+    found-row = found id (f .items) x (At r) e q .2
 
     pub picture-at : image (itemAt f (r .0) .type) ≡ true → pictures.At r ≡ toldPictured (pictured f id)
     unfolding toldPictured pictured listed check _>>=_ _>>_
-    picture-at i = let w = found (At r) q in rw (w .0, w .1, i)
+    picture-at i = let w = found id (f .items) x (At r) e q in rw (w .0, w .1, i)
 
     pub picture-opaque : image (itemAt f (r .0) .type) ≡ false → (y : Refusal) → y .number ≡ 22 → y .place ≡ id → pictures.Refused y ≡ toldPictured (pictured f id)
     unfolding toldPictured pictured listed check _>>=_ _>>_
-    picture-opaque i y n p = let w = found (At r) q in rw (w .0, w .1, i, ← n, ← p)
+    picture-opaque i y n p = let w = found id (f .items) x (At r) e q in rw (w .0, w .1, i, ← n, ← p)
 
 pub picture-listed : (f : File) (id r : ℕ) → pictured f id ≡ ok r → r < length (f .items)
 unfolding pictured listed
@@ -78,6 +62,13 @@ picture-listed f id r e =
     let y = then-ok _ _ (x .0) (x .1) in
     let z = then-ok _ _ r (x .2) in
     subst (λ (k : ℕ). k < length (f .items)) (ok-inj _ _ (y .2) ∙ ok-inj _ _ (z .2)) (row-listed (f .items) id (check-ok 21 id _ (y .0) (y .1)))
+
+pub picture-image : (f : File) (id r : ℕ) → pictured f id ≡ ok r → image (itemAt f r .type) ≡ true
+unfolding pictured
+picture-image f id r e =
+    let x = bind-ok _ _ r e in
+    let z = then-ok _ _ r (x .2) in
+    subst (λ (k : ℕ). image (itemAt f k .type) ≡ true) (ok-inj _ _ (z .2)) (check-ok 22 id _ (z .0) (z .1))
 
 -- toldPictured
 pub pictured-refused : (m : Answer ℕ) (y : Refusal) → toldPictured m ≡ pictures.Refused y → m ≡ refuse (y .number) (y .place)
@@ -135,7 +126,7 @@ module _ (total : ℕ) (head t : List ℕ) where
     file-accepted : accepted total head ≡ ok file
     file-accepted = sym (opened-is total head t enough) ∙ file-opened
 
-    table-is : u ≡ wordsOf total head file ++ drop 11280 t
+    pub table-is : u ≡ wordsOf total head file ++ drop 11280 t
     unfolding leftBy
     table-is = a ∙ after-is total head t enough ∙ ap (leftBy total head t) file-accepted
 

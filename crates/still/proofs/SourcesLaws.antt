@@ -1,20 +1,18 @@
 -- Sources over the table of an accepted file. Assumes nothing.
 use Prim.Native.Nat.{ℕ, _<_, _≤_}
 use native.Mathlib.Omega.{arith}
-use mathlib.Core.Path.{_≡_, refl, sym, ap, _∙_, subst}
-use mathlib.Core.List.{List, [], _∷_, _++_}
+use mathlib.Core.Path.{_≡_, sym, _∙_}
+use mathlib.Core.List.{List, _++_}
 use mathlib.Core.Bool.{true, false}
-use mathlib.Core.Logic.{_⊎_, inl, inr, ⊎-elim}
 use lib.ListN.{length, getD, drop}
 use lib.Dec.{leb, eqb}
 use borrow.Author.Tests.{le-leb, lt-leb}
 use Rattle.table.specs.declared.ItemRow.{ItemRow}
-use Rattle.boxes.specs.Answer.{Answer, ok, refuse, check, _>>=_, _>>_}
+use Rattle.boxes.specs.Answer.{ok, check, _>>=_, _>>_}
 use Rattle.boxes.specs.declared.Refusal.{Refusal}
 use Rattle.contents.specs.File.{File}
 use Rattle.pictures.specs.Scene.{Scene}
 use Rattle.pictures.specs.Depth.{depth}
-use Rattle.pictures.specs.GoodScene.{GoodPicture}
 use Rattle.pictures.specs.Sources.{needs}
 use Rattle.pictures.specs.Sources as Sources
 use Rattle.pictures.proofs.PathLaws.{good-picture}
@@ -33,8 +31,7 @@ use Rattle.still.specs.Told.{toldOpened, toldPictured, toldListed}
 use Rattle.still.specs.declared.Opened.the-variants as opens
 use Rattle.still.specs.declared.Pictured.the-variants as pictures
 use Rattle.still.specs.declared.Listed.the-variants as listed
-use Rattle.still.proofs.QuestionLaws.{picture-listed, pictured-refused, pictured-row, opened-refused}
-use Rattle.still.proofs.TraceLaws.{picture-image}
+use Rattle.still.proofs.QuestionLaws.{picture-listed, pictured-refused, pictured-row, opened-refused, picture-image}
 
 -- sourcesIn
 module _ (t head : List ℕ) (total : ℕ) (f : File) (w : Shown t head total f) (id room : ℕ) (l : List ℕ) where

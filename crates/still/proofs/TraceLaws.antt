@@ -1,28 +1,24 @@
 -- Traces over the table of an accepted file. Assumes nothing.
 use Prim.Native.Nat.{ℕ, _<_, _≤_}
-use native.Mathlib.Omega.{arith}
-use mathlib.Core.Path.{_≡_, refl, sym, ap, _∙_, subst}
+use mathlib.Core.Path.{_≡_, refl, sym, subst}
 use mathlib.Core.List.{List}
-use mathlib.Core.Bool.{Bool, true, false, _&&_}
+use mathlib.Core.Bool.{Bool, true, false}
 use mathlib.Core.Logic.{_⊎_, inl, inr}
 use lib.ListN.{length}
 use lib.Dec.{ltb}
 use borrow.Author.Tests.{lt-ltb, le-ltb}
-use Rattle.fields.proofs.TestLaws.{both-and}
 use Rattle.table.specs.declared.ItemRow.{ItemRow}
 use Rattle.table.specs.declared.ItemId.{ItemId}
-use Rattle.boxes.specs.Answer.{Answer, ok, refuse, check, _>>=_, _>>_}
+use Rattle.boxes.specs.Answer.{ok, check, _>>=_, _>>_}
 use Rattle.boxes.specs.Types.{image}
-use Rattle.boxes.proofs.AnswerLaws.{bind-ok, then-ok, check-ok, ok-inj}
 use Rattle.boxes.specs.declared.Refusal.{Refusal}
 use Rattle.contents.specs.File.{File}
 use Rattle.pictures.specs.declared.Size.{Size}
 use Rattle.pictures.specs.declared.Point.{Point}
 use Rattle.pictures.specs.Turn.{Inside}
-use Rattle.pictures.specs.Recipe.{Opaque}
 use Rattle.pictures.specs.Scene.{Scene, pictureAt, outputOf}
 use Rattle.pictures.specs.Trace as Trace
-use Rattle.pictures.proofs.PathLaws.{Asked, Traces, Ends, path-ends, has-path, trace-is}
+use Rattle.pictures.proofs.PathLaws.{Asked, Ends, path-ends, has-path, trace-is}
 use Rattle.rules.specs.Joined.{itemAt}
 use Rattle.rules.specs.Derivations.{sceneOf}
 use Rattle.rules.specs.Questions.{opened, pictured, listed, foundBy, traceIn, trace}
@@ -35,16 +31,9 @@ use Rattle.tracing.specs.declared.End.the-variants as end
 use Rattle.still.specs.Told.{endRow, toldOpened, toldPictured, toldFound, toldTraced}
 use Rattle.still.specs.declared.Opened.the-variants as opens
 use Rattle.still.specs.declared.Pictured.the-variants as pictures
+use Rattle.still.specs.declared.Traced.{Traced}
 use Rattle.still.specs.declared.Traced.the-variants as traced
-use Rattle.still.proofs.QuestionLaws.{picture-listed, pictured-refused, pictured-row, opened-refused}
-
--- pictured: an image item
-pub picture-image : (f : File) (id r : ℕ) → pictured f id ≡ ok r → image (itemAt f r .type) ≡ true
-unfolding pictured
-picture-image f id r e =
-    let x = bind-ok _ _ r e in
-    let z = then-ok _ _ r (x .2) in
-    subst (λ (k : ℕ). image (itemAt f k .type) ≡ true) (ok-inj _ _ (z .2)) (check-ok 22 id _ (z .0) (z .1))
+use Rattle.still.proofs.QuestionLaws.{picture-listed, pictured-refused, pictured-row, opened-refused, picture-image}
 
 -- the row of an end, as the code has it
 abbrev row-of : End → ℕ
@@ -52,32 +41,17 @@ row-of (end.Pixel r p n) = r .0
 row-of (end.Fill r p n) = r .0
 
 -- toldEnd: an end by the ID of its item
-module _ (f : File) (x : Trace.Traced) where
-  pub end-pixel : (r : ItemRow) (p : Point) (n : ℕ) → end.Pixel r p n ≡ toldEnd x → (i : ItemId) → (endRow (x .end) ≡ r .0 → i .0 ≡ itemAt f (r .0) .id) → traced.Pixel i (p .x) (p .y) n ≡ toldTraced (ok (foundBy f (x .passed) (x .end)))
-  unfolding toldEndBy toldTraced toldFound foundBy
-  end-pixel r p n e i q = by (x .end) e q
-    where
-      by : (y : Trace.End) → end.Pixel r p n ≡ toldEndBy y (x .passed) → (endRow y ≡ r .0 → i .0 ≡ itemAt f (r .0) .id) → traced.Pixel i (p .x) (p .y) n ≡ toldTraced (ok (foundBy f (x .passed) y))
-      by (Trace.pixel k a) e q =
-          let i′ : r .0 ≡ k = ap row-of e in
-          let j : p ≡ a = cc in
-          let m : n ≡ x .passed = cc in
-          let z = q (sym i′) in
-          rw (← i′, ← j, ← m, ← z)
-      by (Trace.fill k a) e q = let z : _≡_ {A = ℕ} 0 1 = cc in absurd (omega arith)
+abbrev traced-by : ItemId → End → Traced
+traced-by i (end.Pixel r p n) = traced.Pixel i (p .x) (p .y) n
+traced-by i (end.Fill r p n) = traced.Fill i (p .x) (p .y) n
 
-  pub end-fill : (r : ItemRow) (p : Point) (n : ℕ) → end.Fill r p n ≡ toldEnd x → (i : ItemId) → (endRow (x .end) ≡ r .0 → i .0 ≡ itemAt f (r .0) .id) → traced.Fill i (p .x) (p .y) n ≡ toldTraced (ok (foundBy f (x .passed) (x .end)))
-  unfolding toldEndBy toldTraced toldFound foundBy
-  end-fill r p n e i q = by (x .end) e q
-    where
-      by : (y : Trace.End) → end.Fill r p n ≡ toldEndBy y (x .passed) → (endRow y ≡ r .0 → i .0 ≡ itemAt f (r .0) .id) → traced.Fill i (p .x) (p .y) n ≡ toldTraced (ok (foundBy f (x .passed) y))
-      by (Trace.fill k a) e q =
-          let i′ : r .0 ≡ k = ap row-of e in
-          let j : p ≡ a = cc in
-          let m : n ≡ x .passed = cc in
-          let z = q (sym i′) in
-          rw (← i′, ← j, ← m, ← z)
-      by (Trace.pixel k a) e q = let z : _≡_ {A = ℕ} 0 1 = cc in absurd (omega arith)
+pub end-told : (f : File) (x : Trace.Traced) (y : End) → y ≡ toldEnd x → (i : ItemId) → (endRow (x .end) ≡ row-of y → i .0 ≡ itemAt f (row-of y) .id) → traced-by i y ≡ toldTraced (ok (foundBy f (x .passed) (x .end)))
+unfolding toldEndBy toldTraced toldFound foundBy
+end-told f x y e i q = subst (λ (y : End). (endRow (x .end) ≡ row-of y → i .0 ≡ itemAt f (row-of y) .id) → traced-by i y ≡ toldTraced (ok (foundBy f (x .passed) (x .end)))) (sym e) (by (x .end)) q
+  where
+    by : (z : Trace.End) → (endRow z ≡ row-of (toldEndBy z (x .passed)) → i .0 ≡ itemAt f (row-of (toldEndBy z (x .passed))) .id) → traced-by i (toldEndBy z (x .passed)) ≡ toldTraced (ok (foundBy f (x .passed) z))
+    by (Trace.pixel k a) q = rw (← q refl)
+    by (Trace.fill k a) q = rw (← q refl)
 
 -- traceIn
 module _ (t head : List ℕ) (total : ℕ) (f : File) (w : Shown t head total f) (id : ℕ) (p : Point) where

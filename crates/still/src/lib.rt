@@ -6,12 +6,13 @@ ghost use lib.ListN.{length};
 ghost use Rattle.contents.specs.File.{File};
 ghost use Rattle.rules.specs.Places.{Places};
 ghost use Rattle.rules.specs.Derivations.{sceneOf};
-ghost use Rattle.rules.specs.Questions.{after, sizeIn, traceIn, sourcesIn, listAfter, foundBy};
+ghost use Rattle.rules.specs.Questions.{sizeIn, traceIn, sourcesIn, listAfter, foundBy};
 ghost use Rattle.rules.specs.Questions as Q;
 ghost use Rattle.views.specs.View.{TableOf, SizesAre};
 ghost use Rattle.pictures.specs.Trace as Trace;
 ghost use Rattle.tracing.specs.Told.{Shown, toldEnd};
-ghost use Rattle.still.specs.Told.{endRow, toldOpened, toldVerdict, toldPictured, toldSized, toldTraced, toldListed, indexIn, indexOf, toldAsked, toldPart, toldBy, toldFault};
+ghost use Rattle.still.specs.Told.{endRow, toldPictured, toldSized, toldTraced, toldListed, indexIn, toldAsked, toldBy};
+ghost use Rattle.still.specs.Given.{OpenedGiven, VerdictGiven, SizeGiven, TraceGiven, SourcesGiven, AskedGiven, PropertyGiven};
 ghost use Rattle.boxes.specs.Answer.{ok};
 ghost use Prim.Native.Nat.{_<_};
 use boxes::Refusal;
@@ -31,8 +32,7 @@ pub enum Opened {
 
 // Reading and judging: 1 to 20.
 pub fn open_file(head: &[u8], total: u64, table: &mut [u32]) -> Opened
-    ensures { λ r. ⌜ r ≡ toldOpened (Q.opened (length (now (table .entry))) total (now (head .entry))) ⌝ }
-    ensures { λ _. ⌜ now (table .exit) ≡ after total (now (head .entry)) (now (table .entry)) ⌝ }
+    ensures { λ r. ⌜ OpenedGiven (now (head .entry)) total (now (table .entry)) r (now (table .exit)) ⌝ }
 {
     let r = reading::read_file(head, total, table);
     match r {
@@ -57,8 +57,7 @@ pub enum FileVerdict {
 
 // Whether the file is accepted, with its item count and primary item ID.
 pub fn verdict(head: &[u8], total: u64, table: &mut [u32]) -> FileVerdict
-    ensures { λ r. ⌜ r ≡ toldVerdict (Q.verdict (length (now (table .entry))) total (now (head .entry))) ⌝ }
-    ensures { λ _. ⌜ now (table .exit) ≡ after total (now (head .entry)) (now (table .entry)) ⌝ }
+    ensures { λ r. ⌜ VerdictGiven (now (head .entry)) total (now (table .entry)) r (now (table .exit)) ⌝ }
 {
     let o = open_file(head, total, table);
     match o {
@@ -86,7 +85,7 @@ fn refusal(number: u32, id: ItemId) -> Refusal
 }
 
 // 21, then 22.
-pub fn picture_row(table: &[u32], id: ItemId) -> Pictured
+fn picture_row(table: &[u32], id: ItemId) -> Pictured
     ensures { λ r. ⌜ ((head : List ℕ) (pl : Places) (f : File) → TableOf (now (table .entry)) head pl f → r ≡ toldPictured (Q.pictured f (id .0))) ⌝ }
 {
     let found = views::row_named(table, id, ItemRow(0));
@@ -113,7 +112,7 @@ pub enum Sized {
 }
 
 // The sizes and depth of an item of an accepted file's table.
-pub fn size_in(table: &[u32], id: ItemId) -> Sized
+fn size_in(table: &[u32], id: ItemId) -> Sized
     ensures { λ r. ⌜ ((total : ℕ) (head : List ℕ) (pl : Places) (f : File) → TableOf (now (table .entry)) head pl f → SizesAre (now (table .entry)) (sceneOf total head f) → r ≡ toldSized (sizeIn (sceneOf total head f) f (id .0))) ⌝ }
 {
     let p = picture_row(table, id);
@@ -131,8 +130,7 @@ pub fn size_in(table: &[u32], id: ItemId) -> Sized
 
 // Reconstructed and output width and height, and the depth, of an item.
 pub fn size(head: &[u8], total: u64, table: &mut [u32], id: ItemId) -> Sized
-    ensures { λ r. ⌜ r ≡ toldSized (Q.size (length (now (table .entry))) total (now (head .entry)) (id .0)) ⌝ }
-    ensures { λ _. ⌜ now (table .exit) ≡ after total (now (head .entry)) (now (table .entry)) ⌝ }
+    ensures { λ r. ⌜ SizeGiven (now (head .entry)) total (now (table .entry)) (id .0) r (now (table .exit)) ⌝ }
 {
     let o = open_file(head, total, table);
     match o {
@@ -178,7 +176,7 @@ fn ended(table: &[u32], e: End) -> Traced
 }
 
 // The trace of an output pixel of an item of an accepted file's table: 21, 22, then 23.
-pub fn trace_in(head: &[u8], table: &[u32], id: ItemId, p: Point) -> Traced
+fn trace_in(head: &[u8], table: &[u32], id: ItemId, p: Point) -> Traced
     ensures { λ r. ⌜ ((total : ℕ) (f : File) → Shown (now (table .entry)) (now (head .entry)) total f → r ≡ toldTraced (traceIn (sceneOf total (now (head .entry)) f) f (id .0) p)) ⌝ }
 {
     let r = picture_row(table, id);
@@ -199,8 +197,7 @@ pub fn trace_in(head: &[u8], table: &[u32], id: ItemId, p: Point) -> Traced
 
 // Pixel or fill, item ID, x and y there, and the items passed, for the output pixel p of an item.
 pub fn trace(head: &[u8], total: u64, table: &mut [u32], id: ItemId, p: Point) -> Traced
-    ensures { λ r. ⌜ r ≡ toldTraced (Q.trace (length (now (table .entry))) total (now (head .entry)) (id .0) p) ⌝ }
-    ensures { λ _. ⌜ now (table .exit) ≡ after total (now (head .entry)) (now (table .entry)) ⌝ }
+    ensures { λ r. ⌜ TraceGiven (now (head .entry)) total (now (table .entry)) (id .0) p r (now (table .exit)) ⌝ }
 {
     let o = open_file(head, total, table);
     match o {
@@ -216,7 +213,7 @@ pub enum Listed {
 }
 
 // The sources of an item of an accepted file's table into a lent list: 21, 22, then 24.
-pub fn sources_in(table: &[u32], id: ItemId, list: &mut [u32]) -> Listed
+fn sources_in(table: &[u32], id: ItemId, list: &mut [u32]) -> Listed
     ensures { λ r. ⌜ ((total : ℕ) (head : List ℕ) (f : File) → Shown (now (table .entry)) head total f → (r ≡ toldListed (sourcesIn (sceneOf total head f) f (id .0) (length (now (list .entry))))) × (now (list .exit) ≡ listAfter (sourcesIn (sceneOf total head f) f (id .0) (length (now (list .entry)))) (now (list .entry)))) ⌝ }
 {
     let r = picture_row(table, id);
@@ -227,7 +224,8 @@ pub fn sources_in(table: &[u32], id: ItemId, list: &mut [u32]) -> Listed
             if 256 < n {
                 return Listed::Is(0);
             }
-            let rows = derived::resolve(table);
+            let mut rows = [0u32; 2048];
+            derived::resolve(table, &mut rows);
             let marks = depths::needed_of(table, &rows, n, row);
             let count = needed::count_sources(table, &marks, n);
             if list.len() < count {
@@ -241,9 +239,7 @@ pub fn sources_in(table: &[u32], id: ItemId, list: &mut [u32]) -> Listed
 
 // The IDs of all coded items that an item needs, each once, in table order, into a lent list.
 pub fn sources(head: &[u8], total: u64, table: &mut [u32], id: ItemId, list: &mut [u32]) -> Listed
-    ensures { λ r. ⌜ r ≡ toldListed (Q.sources (length (now (table .entry))) total (now (head .entry)) (id .0) (length (now (list .entry)))) ⌝ }
-    ensures { λ _. ⌜ now (list .exit) ≡ listAfter (Q.sources (length (now (table .entry))) total (now (head .entry)) (id .0) (length (now (list .entry)))) (now (list .entry)) ⌝ }
-    ensures { λ _. ⌜ now (table .exit) ≡ after total (now (head .entry)) (now (table .entry)) ⌝ }
+    ensures { λ r. ⌜ SourcesGiven (now (head .entry)) total (now (table .entry)) (id .0) (now (list .entry)) r (now (list .exit)) (now (table .exit)) ⌝ }
 {
     let o = open_file(head, total, table);
     match o {
@@ -258,7 +254,7 @@ pub enum PropertyAsked {
 }
 
 // Which property an item's association k, from 1, names: 21, then 25.
-pub fn property_index(table: &[u32], id: ItemId, k: u32) -> PropertyAsked
+fn property_index(table: &[u32], id: ItemId, k: u32) -> PropertyAsked
     ensures { λ r. ⌜ ((head : List ℕ) (pl : Places) (f : File) → TableOf (now (table .entry)) head pl f → r ≡ toldAsked (indexIn f (id .0) k)) ⌝ }
 {
     let found = views::row_named(table, id, ItemRow(0));
@@ -284,8 +280,7 @@ pub fn property_asked(
     id: ItemId,
     k: u32,
 ) -> PropertyAsked
-    ensures { λ r. ⌜ r ≡ toldAsked (indexOf (length (now (table .entry))) total (now (head .entry)) (id .0) k) ⌝ }
-    ensures { λ _. ⌜ now (table .exit) ≡ after total (now (head .entry)) (now (table .entry)) ⌝ }
+    ensures { λ r. ⌜ AskedGiven (now (head .entry)) total (now (table .entry)) (id .0) k r (now (table .exit)) ⌝ }
 {
     let o = open_file(head, total, table);
     match o {
@@ -314,9 +309,7 @@ pub fn property<'a>(
     k: u32,
     told: &mut [u64],
 ) -> &'a [u8]
-    ensures { λ r. ⌜ now r ≡ toldPart (Q.property (length (now (table .entry))) total (now (head .entry)) (id .0) k) ⌝ }
-    ensures { λ _. ⌜ now (told .exit) ≡ toldFault (now (told .entry)) (Q.property (length (now (table .entry))) total (now (head .entry)) (id .0) k) ⌝ }
-    ensures { λ _. ⌜ now (table .exit) ≡ after total (now (head .entry)) (now (table .entry)) ⌝ }
+    ensures { λ r. ⌜ PropertyGiven (now (head .entry)) total (now (table .entry)) (id .0) k (now (told .entry)) (now r) (now (told .exit)) (now (table .exit)) ⌝ }
 {
     let a = property_asked(head, total, table, id, k);
     match a {

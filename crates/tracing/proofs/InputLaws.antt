@@ -12,8 +12,7 @@ use Rattle.records.specs.declared.FoundRow.{FoundRow}
 use Rattle.records.specs.declared.FoundRow.the-variants.{At, Nothing}
 use Rattle.views.specs.View.{TableOf}
 use Rattle.views.specs.Told.{toldRow}
-use Rattle.views.proofs.LookupLaws.{row-listed}
-use Rattle.derived.proofs.InputLaws.{told-at, told-nothing}
+use Rattle.views.proofs.LookupLaws.{row-listed, told-at, told-nothing}
 
 -- toldRow of the target with number j of an item
 module _ {t head : List ℕ} {pl : Places} {f : File} (v : TableOf t head pl f) (id j : ℕ) (l : j < length (targetsOf f id))

@@ -3,7 +3,7 @@ use Prim.Native.Nat.{ℕ, zero, suc, _+_, _*_, _^_, _≤_, _<_}
 use native.Mathlib.Omega.{arith}
 use mathlib.Core.Path.{_≡_, refl, sym, ap, subst, _∙_}
 use mathlib.Core.List.{List, [], _∷_}
-use mathlib.Core.Bool.{Bool, true, false, _&&_}
+use mathlib.Core.Bool.{true, false}
 use mathlib.Core.Logic.{_⊎_, inl, inr}
 use lib.ListN.{length, getD, take}
 use lib.Seq.{take-all}
@@ -11,10 +11,9 @@ use lib.Dec.{eqb}
 use Rattle.fields.specs.Choice.{pick}
 use Rattle.fields.specs.Field.{beAt}
 use Rattle.fields.proofs.FieldLaws.{pick-yes, pick-no, both, Bytes, be-below}
-use Rattle.fields.proofs.TestLaws.{both-and}
+use Rattle.fields.proofs.TestLaws.{both-and, and-none}
 use Rattle.boxes.specs.Answer.{ok}
 use Rattle.boxes.specs.Types.{iden, grid, iovl, derived, image}
-use Rattle.boxes.proofs.AnswerLaws.{bind-ok, then-ok, ok-inj}
 use Rattle.forms.specs.Form.{whole, whole-sound}
 use Rattle.contents.specs.Iinf.{Item}
 use Rattle.contents.specs.File.{File}
@@ -40,6 +39,8 @@ use Rattle.rules.proofs.SceneLaws.{recipe-ok}
 use Rattle.views.specs.View.{SizesAre, idOf}
 use Rattle.derived.specs.Told.{bodyOr}
 use Rattle.sizing.proofs.SizesLaws.{scene-inputs, scene-input, scene-input-size}
+use Rattle.rules.proofs.DerivationLaws.{body-read}
+use Rattle.pictures.proofs.GridLaws.{two-or-four}
 use Rattle.tracing.specs.Told.{Shown, toldSource, toldCovered}
 use Rattle.tracing.specs.declared.Source.{Source}
 use Rattle.tracing.specs.declared.Source.the-variants as source
@@ -59,11 +60,6 @@ side-off o v n = both (λ (m : SideFound). side.Off ≡ m → onSide o v n ≡ f
 -- toldSide of the number that the bytes b spell
 pub side-read : (b : List ℕ) (at w v n o : ℕ) (x : SideFound) → Bytes b → (w ≡ 2) ⊎ (w ≡ 4) → o ≡ beAt b at w → ((w ≡ 2) ⊎ (w ≡ 4) → o < 256 ^ w → x ≡ toldSide (signed w o) v n) → x ≡ toldSide (signed w (beAt b at w)) v n
 side-read b at w v n o x given two e f = f two (rw e (be-below b at w given)) ∙ ap (λ (o : ℕ). toldSide (signed w o) v n) e
-
--- _&&_
-and-none : (a b : Bool) → b ≡ false → (a && b) ≡ false
-and-none true b e = e
-and-none false b e = refl
 
 -- toldCovered: by the two sides
 module _ (o : Offset) (s : Size) (p : Point) where
@@ -107,14 +103,6 @@ module _ (s : Scene) (os : List Offset) (is : List ℕ) (p : Point) where
   pub layer-none : (k : ℕ) → k ≡ 0 → layerAt s os is p blank ≡ layerAt s (take k os) (take k is) p blank → source.Blank ≡ toldSource (layerAt s os is p blank)
   unfolding layerAt toldSource
   layer-none k z w = let e : layerAt s (take k os) (take k is) p blank ≡ blank = rw z in sym (ap toldSource (w ∙ e))
-
--- fieldBytes
-pub two-widths : (flags : ℕ) → (fieldBytes flags ≡ 2) ⊎ (fieldBytes flags ≡ 4)
-two-widths flags = both (λ (w : ℕ). (w ≡ 2) ⊎ (w ≡ 4)) _ _ _ (λ q. inr refl) (λ q. inl refl)
-
-pub narrow : (w : ℕ) → (w ≡ 2) ⊎ (w ≡ 4) → w ≤ 4
-narrow w (inl h) = omega arith
-narrow w (inr h) = omega arith
 
 -- where the offset of input k of n stands in a body of so many bytes, in numbers of w bytes
 pub record OffsetIn (w k long : ℕ) : Type 0 where
@@ -188,18 +176,16 @@ pub overlay-read : (b : List ℕ) (n w h k : ℕ) → layers.Is w h k ≡ toldOv
 overlay-read b n w h k e =
     let o = told-overlay b _ w h k (sym e) in
     let x = overlay-bytes 0 b n (o .overlay) (o .is) in
-    subst (λ (k : ℕ). ((k ≡ 2) ⊎ (k ≡ 4)) × (length b ≡ 10 + 2 * k + 2 * k * n) × (k ≡ fieldBytes (beAt b 1 1))) (o .bytes) (two-widths (beAt b 1 1), x .0, refl)
+    subst (λ (k : ℕ). ((k ≡ 2) ⊎ (k ≡ 4)) × (length b ≡ 10 + 2 * k + 2 * k * n) × (k ≡ fieldBytes (beAt b 1 1))) (o .bytes) (two-or-four (beAt b 1 1), x .0, refl)
 
 -- layersOf
 module _ (total : ℕ) (head : List ℕ) (f : File) (item : Item) (r : Recipe) where
   layers-read : layersOf total head f item ≡ ok r → (o : Overlay) × (whole (iovl-form (length (targetsOf f (item .id)))) 0 (bodyOr (bodyOf total head f item)) ≡ ok o) × (r ≡ Layers o)
   unfolding layersOf bodyOr
   layers-read m =
-      let x = bind-ok _ _ r m in
-      let y = bind-ok _ _ r (x .2) in
-      let z = then-ok _ _ r (y .2) in
+      let x = body-read _ _ 17 _ _ Layers r m in
       let e : bodyOr (bodyOf total head f item) ≡ x .0 = ap bodyOr (x .1) in
-      (y .0, rw e (y .1), sym (ok-inj (Layers (y .0)) r (z .2)))
+      (x .2, rw e (x .3), sym (x .5))
 
 -- Shown: an `iovl` item whose body is b, of n inputs
 module _ {t head : List ℕ} {total : ℕ} {f : File} (v : Shown t head total f) (r : ℕ) (h : r < length (f .items)) (e : itemAt f r .type ≡ iovl) (b : List ℕ) (body : b ≡ bodyOr (bodyOf total head f (itemAt f r))) (n : ℕ) (c : n ≡ length (targetsOf f (idOf f r))) where

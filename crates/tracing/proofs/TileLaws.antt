@@ -1,6 +1,6 @@
 -- Copies and grids: what lies beneath a point of one. Assumes nothing.
 use Prim.Native.Nat.{ℕ, _+_, _*_, _/_, _%_, _<_}
-use native.Mathlib.Nat.{mul-le-mul-right}
+use native.Mathlib.Nat.{div-le-self, mul-le-mul-right}
 use native.Mathlib.Omega.{arith}
 use mathlib.Core.Path.{_≡_, refl, sym, ap, subst, _∙_}
 use mathlib.Core.List.{List}
@@ -14,7 +14,7 @@ use Rattle.fields.proofs.FieldLaws.{pick-yes, pick-no}
 use Rattle.fields.proofs.TestLaws.{and-both}
 use Rattle.boxes.specs.Answer.{ok}
 use Rattle.boxes.specs.Types.{iden, grid, derived, image}
-use Rattle.boxes.proofs.AnswerLaws.{bind-ok, then-ok, ok-inj}
+use Rattle.boxes.proofs.AnswerLaws.{then-ok, ok-inj}
 use Rattle.forms.specs.Form.{whole}
 use Rattle.table.specs.declared.ItemRow.{ItemRow}
 use Rattle.contents.specs.Iinf.{Item}
@@ -34,7 +34,7 @@ use Rattle.pictures.proofs.SceneLaws.{same-size, is-made-up}
 use Rattle.pictures.proofs.SourceLaws.{tile-in}
 use Rattle.rules.specs.Joined.{targetsOf, rowOf, itemAt}
 use Rattle.rules.specs.Derivations.{bodyOf, copyOf, tilesOf, layersOf, recipeFor, recipeOf, sceneOf}
-use Rattle.rules.proofs.DerivationLaws.{rule-17-ok}
+use Rattle.rules.proofs.DerivationLaws.{rule-17-ok, body-read}
 use Rattle.rules.proofs.SceneLaws.{opaque-at, recipe-ok, inputs-fed}
 use Rattle.views.specs.View.{SizesAre, idOf}
 use Rattle.derived.specs.Told.{bodyOr}
@@ -43,8 +43,12 @@ use Rattle.tracing.specs.Told.{Shown, toldSource}
 use Rattle.tracing.specs.declared.Source.the-variants as source
 
 -- the number of a tile fits in 64 bits
-pub tile-number : (a b c : ℕ) → a < 4294967296 → b < 4294967296 → c < 4294967296 → (a * c < 18446744073709551616) × (a * c + b < 18446744073709551616)
-tile-number a b c h i j = let m = mul-le-mul-right {m = a} {n = 4294967295} c (omega arith) in (omega arith, omega arith)
+pub tile-number : (x y w h c : ℕ) → x < 4294967296 → y < 4294967296 → c < 4294967296 → (y / h * c < 18446744073709551616) × (y / h * c + x / w < 18446744073709551616)
+tile-number x y w h c i j k =
+    let a = div-le-self x w in
+    let b = div-le-self y h in
+    let m = mul-le-mul-right {m = y / h} {n = 4294967295} c (omega arith) in
+    (omega arith, omega arith)
 
 -- recipeOf of a derived item, by its type
 module _ (total : ℕ) (head : List ℕ) (f : File) (item : Item) (r : Recipe) (e : recipeOf total head f item ≡ ok r) where
@@ -59,10 +63,8 @@ module _ (total : ℕ) (head : List ℕ) (f : File) (item : Item) (r : Recipe) (
   tiles-by : item .type ≡ grid → (b : List ℕ) × (bodyOf total head f item ≡ ok b) × (g : Grid) × (whole grid-form 0 b ≡ ok g) × (r ≡ Tiles g)
   unfolding tilesOf
   tiles-by q =
-      let x = bind-ok _ _ r (sym (pick-no _ _ (ap (λ (k : ℕ). eqb k iden) q) ∙ pick-yes _ _ (eq-eqb (item .type) grid q)) ∙ derived-by (ap (λ (k : ℕ). derived k) q)) in
-      let y = bind-ok _ _ r (x .2) in
-      let z = then-ok _ _ r (y .2) in
-      (x .0, x .1, y .0, y .1, sym (ok-inj (Tiles (y .0)) r (z .2)))
+      let x = body-read _ _ 17 _ _ Tiles r (sym (pick-no _ _ (ap (λ (k : ℕ). eqb k iden) q) ∙ pick-yes _ _ (eq-eqb (item .type) grid q)) ∙ derived-by (ap (λ (k : ℕ). derived k) q)) in
+      (x .0, x .1, x .2, x .3, sym (x .5))
 
 -- Tiles is not Opaque
 tiles-drawn : (g : Grid) → Tiles g ≡ Opaque → ⊥

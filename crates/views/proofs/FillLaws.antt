@@ -28,8 +28,8 @@ use Rattle.records.specs.Raw.{Bounded, namedWords, derivedWords, placeWords, re
 use Rattle.records.proofs.JoinLaws.{join-same, join-length, join-getD}
 use Rattle.records.proofs.RawLaws.{rowWords, row-length, records-joined, targets-length}
 use Rattle.records.proofs.SetsLaws.{sets-first, sets-from, sets-over, getD-from}
+use Rattle.records.proofs.BoundLaws.{read-bounds}
 use Rattle.views.specs.View.{TableOf, SizesAre, AllPlaced, recordWord, noExtent}
-use Rattle.views.proofs.BoundLaws.{read-bounds}
 use Rattle.views.proofs.LocatedLaws.{noLocation, each-located}
 use Rattle.views.proofs.PartLaws.{property-parts}
 use Rattle.views.proofs.RegionLaws.{tableBy, table-length, target-word, record-sets}

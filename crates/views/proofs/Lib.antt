@@ -1,4 +1,3 @@
-pub mod BoundLaws
 pub mod LieLaws
 pub mod RegionLaws
 pub mod SpanLaws

@@ -1,20 +1,17 @@
 -- The entries of an `iloc` that was read: one for an ID, each of an item that is listed. Assumes nothing.
 use Prim.Native.Nat.{ℕ, zero, suc, _<_}
 use native.Mathlib.Nat.{not-suc-le-zero, le-of-suc-le-suc}
-use native.Mathlib.Omega.{arith}
 use mathlib.Core.Path.{_≡_, refl, sym, ap, _∙_, subst}
 use mathlib.Core.List.{List, [], _∷_, map-append}
 use mathlib.Core.Bool.{true, false}
-use mathlib.Core.Logic.{⊎-elim}
 use lib.ListN.{length, getD, length-map, List·getD-map}
-use lib.Dec.{eqb}
-use borrow.Author.Tests.{eq-eqb, ne-eqb, eqb-true, not-true}
+use borrow.Author.Tests.{eq-eqb, ne-eqb, not-true}
 use Rattle.fields.specs.Lists.{All, member}
 use Rattle.fields.proofs.FieldLaws.{pick-yes, pick-no}
-use Rattle.fields.proofs.TestLaws.{untrue, or-either}
+use Rattle.fields.proofs.TestLaws.{member-place}
 use Rattle.boxes.specs.Answer.{ok}
 use Rattle.forms.specs.Form.{give, demand, _>>=_}
-use Rattle.forms.proofs.ManyLaws.{many-all}
+use Rattle.forms.proofs.ManyLaws.{many-all, many-keeps}
 use Rattle.contents.specs.Iinf.{idsOf}
 use Rattle.contents.specs.Iloc.{Location, locatedIn, entry-form, iloc-form}
 use Rattle.contents.specs.File.{File, readFile}
@@ -22,20 +19,13 @@ use Rattle.contents.proofs.ReadLaws.{read-sound}
 use Rattle.rules.specs.Joined.{locatedAt, locationOf}
 use Rattle.records.specs.Rows.{Distinct}
 use Rattle.records.proofs.MemberLaws.{none-member, distinct-more}
+use Rattle.records.proofs.RawLaws.{id-at}
 use Rattle.views.specs.View.{idOf}
-use Rattle.views.proofs.BoundLaws.{many-keeps}
-use Rattle.views.proofs.LookupLaws.{id-at}
 use Rattle.views.proofs.SoundLaws.{all-at}
 
 -- no entry, for a list's default
 abbrev pub noLocation : Location
 noLocation = record { id = 0; method = 0; reference = 0; base = 0; extents = [] }
-
--- member
-member-place : (l : List ℕ) (x : ℕ) → member x l ≡ true → (j : ℕ) × (j < length l) × (getD l j 0 ≡ x)
-member-place [] x e = untrue e
-member-place (y ∷ l) x e =
-    ⊎-elim (λ q. (0, omega arith, sym (eqb-true x y q))) (λ q. let r = member-place l x q in (suc (r .0), omega arith, r .2)) (or-either (eqb x y) (member x l) e)
 
 -- entry-form
 module _ (ids : List ℕ) (v os ls bs ix : ℕ) (before : List Location) (u : List ℕ) (l : Location) (s : entry-form ids v os ls bs ix before .Spells u l) where

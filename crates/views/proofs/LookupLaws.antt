@@ -6,12 +6,12 @@ use mathlib.Core.Path.{_≡_, refl, sym, ap, _∙_, subst}
 use mathlib.Core.List.{List, [], _∷_}
 use mathlib.Core.Bool.{true, false}
 use mathlib.Core.Logic.{⊎-elim}
-use lib.ListN.{length, getD, length-map, List·getD-map}
+use lib.ListN.{length, getD, length-map}
 use lib.Dec.{eqb}
 use borrow.Author.Tests.{eq-eqb, ne-eqb, eqb-true}
 use Rattle.fields.specs.Lists.{member}
 use Rattle.fields.proofs.FieldLaws.{pick-yes, pick-no, both}
-use Rattle.fields.proofs.TestLaws.{untrue, or-either}
+use Rattle.fields.proofs.TestLaws.{untrue, or-either, member-at}
 use Rattle.table.specs.declared.ItemRow.{ItemRow}
 use Rattle.contents.specs.Iinf.{Item, idsOf}
 use Rattle.contents.specs.File.{File}
@@ -20,16 +20,10 @@ use Rattle.rules.specs.Places.{Places}
 use Rattle.records.specs.Rows.{Distinct, idAt, FoundIs}
 use Rattle.records.specs.declared.FoundRow.{FoundRow}
 use Rattle.records.specs.declared.FoundRow.the-variants.{At, Nothing}
-use Rattle.records.proofs.MemberLaws.{member-at, member-none, none-member, member-neither}
+use Rattle.records.proofs.MemberLaws.{member-none, none-member, member-neither}
+use Rattle.records.proofs.RawLaws.{id-at, ids-long}
 use Rattle.views.specs.View.{TableOf, idOf}
 use Rattle.views.specs.Told.{toldRow}
-
--- idsOf
-pub id-at : (is : List Item) (r : ℕ) → getD (idsOf is) r 0 ≡ getD is r noItem .id
-id-at is r = List·getD-map (λ (i : Item). i .id) is r noItem
-
-ids-long : (is : List Item) → length (idsOf is) ≡ length is
-ids-long is = length-map is (λ (i : Item). i .id)
 
 -- rowOf
 pub row-of-at : (is : List Item) (r id : ℕ) → r < length is → Distinct (idsOf is) → getD is r noItem .id ≡ id → rowOf id is ≡ r
@@ -56,7 +50,25 @@ row-listed (i ∷ is) id e =
     both (λ (r : ℕ). r < suc (length is)) (eqb (i .id) id) _ _ (λ q. omega arith)
     (λ q. ⊎-elim (λ z. untrue (sym q ∙ eq-eqb (i .id) id (sym (eqb-true id (i .id) z)))) (λ z. omega (arith, row-listed is id z)) (or-either (eqb id (i .id)) (member id (idsOf is)) e))
 
--- toldRow
+-- toldRow: what a lookup found
+abbrev pub Found : ℕ → List Item → FoundRow → Type 0
+Found id is (At r) = (member id (idsOf is) ≡ true) × (rowOf id is ≡ r .0) × (r .0 < length is)
+Found id is Nothing = (member id (idsOf is) ≡ false) × (rowOf id is ≡ length is)
+
+pub found : (id : ℕ) (is : List Item) (x y : FoundRow) → x ≡ toldRow id is → x ≡ y → Found id is y
+unfolding toldRow
+found id is x y e q =
+    subst (Found id is) (sym e ∙ q)
+    (both (Found id is) (member id (idsOf is)) _ _ (λ m. (m, refl, row-listed is id m)) (λ m. (m, row-of-none is id m)))
+
+module _ (id : ℕ) (is : List Item) where
+  pub told-at : (r : ItemRow) → At r ≡ toldRow id is → (r .0 ≡ rowOf id is) × (r .0 < length is)
+  told-at r e = let w = found id is (At r) (At r) e refl in (sym (w .1), w .2)
+
+  pub told-nothing : Nothing ≡ toldRow id is → length is ≡ rowOf id is
+  told-nothing e = let w = found id is Nothing Nothing e refl in sym (w .1)
+
+-- the row that a table gives
 module _ {t head : List ℕ} {pl : Places} {f : File} (v : TableOf t head pl f) (id : ℕ) where
   row-id : (r : ℕ) → r < length (f .items) → idAt t r ≡ idOf f r
   row-id r h = ap (λ (k : ℕ). getD t k 0) (sym (add-zero (16 + 16 * r))) ∙ v .id r h

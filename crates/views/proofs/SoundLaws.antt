@@ -3,11 +3,9 @@ use Prim.Native.Nat.{ℕ, zero, suc, _<_, _≤_}
 use native.Mathlib.Nat.{not-suc-le-zero, le-of-suc-le-suc}
 use mathlib.Core.Path.{_≡_, sym, subst}
 use mathlib.Core.List.{List, [], _∷_}
-use mathlib.Core.Bool.{Bool, true, false}
+use mathlib.Core.Bool.{true}
 use lib.ListN.{length, getD}
-use lib.Dec.{eqb}
 use borrow.Author.Tests.{leb-true}
-use Rattle.fields.specs.Choice.{pick}
 use Rattle.fields.specs.Lists.{All, member}
 use Rattle.fields.proofs.FieldLaws.{both}
 use Rattle.fields.proofs.TestLaws.{and-both}

@@ -3,6 +3,7 @@ use Prim.Native.Nat.{ℕ, _+_, _*_, _-_, _<_, _≤_}
 use native.Mathlib.Omega.{arith}
 use mathlib.Core.Path.{_≡_, refl, sym, ap, _∙_}
 use mathlib.Core.List.{List, []}
+use mathlib.Core.Bool.{Bool}
 use lib.ListN.{length, getD, take, drop, length-drop, drop-of-length-le}
 use lib.Seq.{take-all}
 use borrow.Author.Tests.{eq-eqb, ne-eqb}
@@ -11,7 +12,7 @@ use Rattle.fields.proofs.FieldLaws.{pick-yes, pick-no}
 use Rattle.boxes.specs.Box.{headOf, kindOf, bodyOf}
 use Rattle.boxes.proofs.BoxLaws.{head-least, short-head, long-head}
 use Rattle.contents.specs.File.{File}
-use Rattle.rules.specs.Joined.{associationsOf, targetsOf, locationOf, propertyAt}
+use Rattle.rules.specs.Joined.{associationsOf, targetsOf, locationOf, propertyAt, itemAt}
 use Rattle.rules.specs.Places.{Places, fileOffset}
 use Rattle.rules.specs.Questions.{noAssociation}
 use Rattle.rules.specs.Words.{associationWord}
@@ -37,6 +38,12 @@ module _ {t head : List ℕ} {pl : Places} {f : File} (v : TableOf t head pl f) 
   module _ (r : ℕ) (h : r < length (f .items)) where
     pub row-small : r < 256
     row-small = omega (arith, v .bounded .few-items)
+
+    pub type-read : (kind : ℕ) → (r < 256 → kind ≡ recordWord t r 1) → kind ≡ itemAt f r .type
+    type-read kind e = e row-small ∙ v .type r h
+
+    pub test-read : (test : ℕ → Bool) (kind : ℕ) (b : Bool) → (r < 256 → kind ≡ recordWord t r 1) → b ≡ test kind → test (itemAt f r .type) ≡ b
+    test-read test kind b e q = sym (q ∙ ap test (type-read kind e))
 
     module _ (j first : ℕ) (l : j < length (associationsOf f (idOf f r))) (e : r < 256 → first ≡ recordWord t r 3) where
       pub named-inside : (first < 2048) × (j < 2048)

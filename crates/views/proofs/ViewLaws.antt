@@ -33,8 +33,8 @@ use Rattle.records.specs.Rows.{Distinct}
 use Rattle.records.proofs.JoinLaws.{join-getD}
 use Rattle.records.proofs.RawLaws.{rowWords, row-length, recordsIn, records-joined, records-length, raw-record}
 use Rattle.records.proofs.SetsLaws.{getD-from}
-use Rattle.views.specs.View.{TableOf, Judging, SizesAre, AllPlaced, recordWord, idOf, noExtent}
-use Rattle.views.proofs.BoundLaws.{read-bounds}
+use Rattle.records.proofs.BoundLaws.{read-bounds}
+use Rattle.views.specs.View.{TableOf, Judging, AllPlaced, recordWord, idOf, noExtent}
 use Rattle.views.proofs.LieLaws.{PartIn}
 use Rattle.views.proofs.RegionLaws.{tableBy, record-word}
 use Rattle.views.proofs.WordLaws.{Rows, Spells, tableWith, fill, place-at, view}

@@ -6,15 +6,6 @@ use native.Mathlib.Omega.{arith}
 use borrow.Author.Needs.{needs}
 use Rattle.boxes.proofs.child_at.Statement.{statement}
 use Rattle.boxes.proofs.child_at.Tie as tie
-use Rattle.boxes.proofs.child_at.Reads as reads
-use Rattle.boxes.proofs.child_at.Lts as lts
-use Rattle.boxes.proofs.header_at.Reads as header-at-reads
-
-header-at-requires : tie.Need-header-at-requires
-header-at-requires c κs = search needs
-
-enum-known-h : tie.Need-enum-known-h
-enum-known-h c = search needs
 
 sub-left : tie.Need-sub-left
 sub-left c = let r = says-room (c .before .before .before .before .before .args .s .now) (c .before .before .before .before .before .args .at) _ _ _ (says _ _ _ _ (sym (c .before .before .before .header-at .ensures) ∙ c .before .h .given .1)) in omega arith
@@ -25,20 +16,8 @@ returns c = let a = c .before .before .before .before .before .before .args in l
 returns-2 : tie.Need-returns-2
 returns-2 c = let a = c .before .before .before .before .before .before .before .args in let h = says _ _ _ _ (sym (c .before .before .before .before .before .header-at .ensures) ∙ c .before .before .before .h .given .1) in let r = says-room (a .s .now) (a .at) _ _ _ h in child-bad (a .s .now) (a .at) (λ p q. absurd (omega (arith, h .its-head, h .its-size))) (omega arith)
 
-add-t9 : tie.Need-add-t9
-add-t9 c = search needs
-
-add-t13 : tie.Need-add-t13
-add-t13 c = search needs
-
-enum-told : tie.Need-enum-told
-enum-told c = search needs
-
 returns-3 : tie.Need-returns-3
 returns-3 c = let a = c .before .before .before .before .before .args in child-end (a .s .now) (a .at) (c .if3 .taken)
-
-sub-if4 : tie.Need-sub-if4
-sub-if4 c = search needs
 
 returns-4 : tie.Need-returns-4
 returns-4 c = let a = c .before .before .before .before .before .before .args in child-spare (a .s .now) (a .at) (c .before .if3 .left) (c .if4 .taken)
@@ -51,18 +30,5 @@ returns-6 c = let a = c .before .before .before .before .before .before .args in
 
 pub child-at-spec : {M : Type 1} → statement M
 child-at-spec =
-    tie.close
-    (tie.spec
-    header-at-requires
-    enum-known-h
-    sub-left
-    returns
-    returns-2
-    add-t9
-    add-t13
-    enum-told
-    returns-3
-    sub-if4
-    returns-4
-    returns-5
-    returns-6)
+    tie.close (tie.spec (search needs) (search needs) sub-left returns returns-2 (search needs) (search needs)
+    (search needs) returns-3 (search needs) returns-4 returns-5 returns-6)

@@ -3,21 +3,13 @@ use mathlib.Core.Path.{sym, ap}
 use Rattle.contents.specs.Full.{between}
 use Rattle.contents.specs.Told.{toldFull}
 use Rattle.contents.proofs.FullLaws.{between-low, between-high, between-in, full-empty, full-version, full-cut, full-is}
-use native.Mathlib.Omega.{arith}
 use borrow.Author.Needs.{needs}
 use Rattle.contents.proofs.read_full.Statement.{statement}
 use Rattle.contents.proofs.read_full.Tie as tie
-use Rattle.contents.proofs.read_full.Reads as reads
-use Rattle.contents.proofs.read_full.Lts as lts
-use Rattle.fields.proofs.be24.Reads as be24-reads
-use Rattle.fields.proofs.be8.Reads as be8-reads
 
 returns : tie.Need-returns
 unfolding toldFull
 returns c = sym (ap toldFull (full-empty (between (c .before .before .args .least) (c .before .before .args .most)) (c .before .before .args .place) (c .before .before .args .s .now) (c .if1 .taken)))
-
-be8-requires : tie.Need-be8-requires
-be8-requires c κs = search needs
 
 returns-2 : tie.Need-returns-2
 unfolding toldFull
@@ -31,13 +23,9 @@ returns-4 : tie.Need-returns-4
 unfolding toldFull
 returns-4 c = sym (ap toldFull (full-cut (between (c .before .before .before .before .before .before .args .least) (c .before .before .before .before .before .before .args .most)) (c .before .before .before .before .before .before .args .place) (c .before .before .before .before .before .before .args .s .now) (c .before .before .before .before .if1 .left) (between-in _ _ _ _ (c .before .before .before .be8 .ensures) (c .before .before .if2 .left) (c .before .if3 .left)) (c .if4 .taken)))
 
-be24-requires : tie.Need-be24-requires
-be24-requires c κs = search needs
-
 returns-5 : tie.Need-returns-5
 unfolding toldFull
 returns-5 c = rw (c .before .before .before .before .be8 .ensures, c .be24 .ensures) (sym (ap toldFull (full-is (between (c .before .before .before .before .before .before .before .args .least) (c .before .before .before .before .before .before .before .args .most)) (c .before .before .before .before .before .before .before .args .place) (c .before .before .before .before .before .before .before .args .s .now) (c .before .if4 .left) (between-in _ _ _ _ (c .before .before .before .before .be8 .ensures) (c .before .before .before .if2 .left) (c .before .before .if3 .left)))))
 
 pub read-full-spec : {M : Type 1} → statement M
-read-full-spec =
-    tie.close (tie.spec returns be8-requires returns-2 returns-3 returns-4 be24-requires returns-5)
+read-full-spec = tie.close (tie.spec returns (search needs) returns-2 returns-3 returns-4 (search needs) returns-5)

@@ -3,30 +3,13 @@ use mathlib.Core.Path.{sym, ap, _∙_}
 use Rattle.contents.specs.Full.{upto}
 use Rattle.contents.specs.Told.{toldHdlr}
 use Rattle.contents.proofs.FullLaws.{full-here, full-gone, hdlr-gone, hdlr-short, hdlr-pict, hdlr-other}
-use native.Mathlib.Omega.{arith}
 use borrow.Author.Needs.{needs}
 use Rattle.contents.proofs.read_hdlr.Statement.{statement}
 use Rattle.contents.proofs.read_hdlr.Tie as tie
-use Rattle.contents.proofs.read_hdlr.Reads as reads
-use Rattle.contents.proofs.read_hdlr.Lts as lts
-use Rattle.contents.proofs.read_full.Reads as read-full-reads
-use Rattle.fields.proofs.be32.Reads as be32-reads
-
-read-full-requires : tie.Need-read-full-requires
-read-full-requires c κs = search needs
-
-enum-known-h : tie.Need-enum-known-h
-enum-known-h c = search needs
-
-enum-told : tie.Need-enum-told
-enum-told c = search needs
 
 returns : tie.Need-returns
 unfolding toldHdlr
 returns c = sym (ap toldHdlr (hdlr-short (c .before .before .before .before .before .args .place) (c .before .before .before .before .before .args .s .now) _ _ (full-here (upto 0) (c .before .before .before .before .before .args .place) (c .before .before .before .before .before .args .s .now) _ _ (sym (c .before .before .before .read-full .ensures) ∙ c .before .enum-told .given .1)) (c .if1 .taken)))
-
-be32-requires : tie.Need-be32-requires
-be32-requires c κs = search needs
 
 returns-2 : tie.Need-returns-2
 unfolding toldHdlr
@@ -42,13 +25,5 @@ returns-4 c = sym (ap toldHdlr (hdlr-other (c .before .before .before .before .b
 
 pub read-hdlr-spec : {M : Type 1} → statement M
 read-hdlr-spec =
-    tie.close
-    (tie.spec
-    read-full-requires
-    enum-known-h
-    enum-told
-    returns
-    be32-requires
-    returns-2
-    returns-3
+    tie.close (tie.spec (search needs) (search needs) (search needs) returns (search needs) returns-2 returns-3
     returns-4)

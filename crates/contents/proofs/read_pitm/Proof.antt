@@ -5,27 +5,9 @@ use Rattle.fields.proofs.FieldLaws.{pick-yes, pick-no}
 use Rattle.contents.specs.Full.{upto}
 use Rattle.contents.specs.Told.{toldPitm}
 use Rattle.contents.proofs.FullLaws.{full-here, full-gone, pitm-gone, pitm-is, pitm-not}
-use native.Mathlib.Omega.{arith}
 use borrow.Author.Needs.{needs}
 use Rattle.contents.proofs.read_pitm.Statement.{statement}
 use Rattle.contents.proofs.read_pitm.Tie as tie
-use Rattle.contents.proofs.read_pitm.Reads as reads
-use Rattle.contents.proofs.read_pitm.Lts as lts
-use Rattle.contents.proofs.read_full.Reads as read-full-reads
-use Rattle.fields.proofs.be16.Reads as be16-reads
-use Rattle.fields.proofs.be32.Reads as be32-reads
-
-read-full-requires : tie.Need-read-full-requires
-read-full-requires c κs = search needs
-
-enum-known-h : tie.Need-enum-known-h
-enum-known-h c = search needs
-
-enum-known-h-2 : tie.Need-enum-known-h-2
-enum-known-h-2 c = search needs
-
-be16-requires : tie.Need-be16-requires
-be16-requires c κs = search needs
 
 returns : tie.Need-returns
 unfolding toldPitm
@@ -34,9 +16,6 @@ returns c = rw (c .be16 .ensures) (sym (ap toldPitm (pitm-is (c .before .before 
 returns-2 : tie.Need-returns-2
 unfolding toldPitm
 returns-2 c = sym (ap toldPitm (pitm-not (c .before .before .before .before .before .before .before .args .place) (c .before .before .before .before .before .before .before .args .s .now) _ _ (full-here (upto 1) (c .before .before .before .before .before .before .before .args .place) (c .before .before .before .before .before .before .before .args .s .now) _ _ (sym (c .before .before .before .before .before .read-full .ensures) ∙ c .before .before .before .h2 .given .1)) 2 (pick-yes _ _ (eq-eqb _ _ (c .before .if1 .taken))) (c .if2 .left)))
-
-be32-requires : tie.Need-be32-requires
-be32-requires c κs = search needs
 
 returns-3 : tie.Need-returns-3
 unfolding toldPitm
@@ -52,15 +31,5 @@ returns-5 c = sym (ap toldPitm (pitm-not (c .before .before .before .before .bef
 
 pub read-pitm-spec : {M : Type 1} → statement M
 read-pitm-spec =
-    tie.close
-    (tie.spec
-    read-full-requires
-    enum-known-h
-    enum-known-h-2
-    be16-requires
-    returns
-    returns-2
-    be32-requires
-    returns-3
-    returns-4
-    returns-5)
+    tie.close (tie.spec (search needs) (search needs) (search needs) (search needs) returns returns-2 (search needs)
+    returns-3 returns-4 returns-5)

@@ -5,15 +5,6 @@ use Rattle.declared.proofs.NamedLaws.{box-named}
 use Rattle.declared.proofs.box_of.Statement.{statement}
 use Rattle.declared.proofs.box_of.Tie as tie
 
-association-of-requires : tie.Need-association-of-requires
-association-of-requires c κs = search needs
-
-index-of-requires : tie.Need-index-of-requires
-index-of-requires c κs = search needs
-
-property-box-requires : tie.Need-property-box-requires
-property-box-requires c κs = search needs
-
 returns : tie.Need-returns
 returns c =
     let a = c .before .before .before .before .before .args in
@@ -21,4 +12,4 @@ returns c =
     box-named v (idOf f (a .row .0)) (a .j) l _ (c .before .before .association-of .ensures (a .head .now) pl f v h l) _ (c .before .index-of .ensures) _ (c .property-box .ensures pl f v)
 
 pub box-of-spec : {M : Type 1} → statement M
-box-of-spec = tie.close (tie.spec association-of-requires index-of-requires property-box-requires returns)
+box-of-spec = tie.close (tie.spec (λ c κs. search needs) (search needs) (λ c κs. search needs) returns)

@@ -4,21 +4,12 @@ use Rattle.declared.proofs.FaultLaws.{row-opaque, row-protected, row-un
 use Rattle.declared.proofs.declared_fault.Statement.{statement}
 use Rattle.declared.proofs.declared_fault.Tie as tie
 
-type-of-requires : tie.Need-type-of-requires
-type-of-requires c κs = search needs
-
-is-image-requires : tie.Need-is-image-requires
-is-image-requires c κs = search needs
-
 returns : tie.Need-returns
 returns c =
     let r = c .before .before .before .before .args .row .0 in
     let t = c .before .before .type-of in
     let x = c .before .is-image in
     λ head pl f v g h. row-opaque v g r h (t .result) (t .ensures) (x .result) (x .ensures) (c .if1 .taken)
-
-record-word-requires : tie.Need-record-word-requires
-record-word-requires c κs = search needs
 
 returns-2 : tie.Need-returns-2
 returns-2 c =
@@ -27,9 +18,6 @@ returns-2 c =
     let x = c .before .before .before .is-image in
     let p = c .before .record-word in
     λ head pl f v g h. row-protected v g r h (t .result) (t .ensures) (x .result) (x .ensures) (c .before .before .if1 .left) (p .result) (p .ensures) (c .if2 .taken)
-
-essentials-known-requires : tie.Need-essentials-known-requires
-essentials-known-requires c κs = search needs
 
 returns-3 : tie.Need-returns-3
 returns-3 c =
@@ -40,9 +28,6 @@ returns-3 c =
     let u = c .before .essentials-known in
     λ head pl f v g h.
     row-unknown v g r h (t .result) (t .ensures) (x .result) (x .ensures) (c .before .before .before .before .if1 .left) (p .result) (p .ensures) (c .before .before .if2 .left) (u .result) (u .ensures head pl f v h) (c .if3 .taken)
-
-has-ispe-requires : tie.Need-has-ispe-requires
-has-ispe-requires c κs = search needs
 
 returns-4 : tie.Need-returns-4
 returns-4 c =
@@ -68,15 +53,5 @@ returns-5 c =
 
 pub declared-fault-spec : {M : Type 1} → statement M
 declared-fault-spec =
-    tie.close
-    (tie.spec
-    type-of-requires
-    is-image-requires
-    returns
-    record-word-requires
-    returns-2
-    essentials-known-requires
-    returns-3
-    has-ispe-requires
-    returns-4
-    returns-5)
+    tie.close (tie.spec (search needs) (search needs) returns (λ c κs. search needs) returns-2 (search needs) returns-3
+    (search needs) returns-4 returns-5)

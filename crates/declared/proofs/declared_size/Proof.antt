@@ -20,24 +20,6 @@ Inv-loop head table row n j₀ j = (j ≤ n) × ((pl : Places) (f : File) → Ta
 abbrev μ-loop : tie.MeasureT-loop
 μ-loop head table row n j₀ j = n - j
 
-property-count-requires : tie.Need-property-count-requires Inv-loop μ-loop
-property-count-requires c κs = search needs
-
-loop-holds : tie.Need-loop-holds Inv-loop μ-loop
-loop-holds c = (omega arith, λ pl f v h. refl)
-
-kind-of-requires : tie.Need-kind-of-requires Inv-loop μ-loop
-kind-of-requires c κs = search needs
-
-box-of-requires : tie.Need-box-of-requires Inv-loop μ-loop
-box-of-requires c κs = search needs
-
-content-of-requires : tie.Need-content-of-requires Inv-loop μ-loop
-content-of-requires c κs = search needs
-
-ispe-size-requires : tie.Need-ispe-size-requires Inv-loop μ-loop
-ispe-size-requires c κs = search needs
-
 returns : tie.Need-returns Inv-loop μ-loop
 returns c =
     let a = c .before .before .before .before .before .before .before .before .before .before .args in
@@ -47,12 +29,6 @@ returns c =
     let l : q .j < length (associationsOf f (idOf f (a .row .0))) = omega (arith, c .before .before .before .before .before .before .before .property-count .ensures (a .head .now) pl f v h) in
     declared-read v (idOf f (a .row .0)) (q .j) l (k .result) (k .ensures (a .head .now) pl f v h l) _ _ (c .before .before .box-of .ensures pl f v h l) (c .before .content-of .ensures) _ (c .before .before .before .if1 .taken) (c .ispe-size .ensures)
     ∙ sym (q .inv .1 pl f v h)
-
-add-j : tie.Need-add-j Inv-loop μ-loop
-add-j c = omega arith
-
-loop-less : tie.Need-loop-less Inv-loop μ-loop
-loop-less c = omega arith
 
 loop-again : tie.Need-loop-again Inv-loop μ-loop
 loop-again c =
@@ -76,18 +52,6 @@ returns-2 c =
 
 pub declared-size-spec : {M : Type 1} → statement M
 declared-size-spec =
-    tie.close
-    (tie.spec
-    Inv-loop
-    μ-loop
-    property-count-requires
-    loop-holds
-    kind-of-requires
-    box-of-requires
-    content-of-requires
-    ispe-size-requires
-    returns
-    add-j
-    loop-less
-    loop-again
+    tie.close (tie.spec Inv-loop μ-loop (search needs) (λ c. (omega arith, λ pl f v h. refl)) (search needs)
+    (λ c κs. search needs) (search needs) (search needs) returns (λ c. omega arith) (λ c. omega arith) loop-again
     returns-2)

@@ -22,21 +22,6 @@ Inv-loop table row n j₀ j = (j ≤ n) × ((head : List ℕ) (pl : Places) (f :
 abbrev μ-loop : tie.MeasureT-loop
 μ-loop table row n j₀ j = n - j
 
-property-count-requires : tie.Need-property-count-requires Inv-loop μ-loop
-property-count-requires c κs = search needs
-
-loop-holds : tie.Need-loop-holds Inv-loop μ-loop
-loop-holds c = (omega arith, λ head pl f v h. refl)
-
-association-of-requires : tie.Need-association-of-requires Inv-loop μ-loop
-association-of-requires c κs = search needs
-
-kind-of-requires : tie.Need-kind-of-requires Inv-loop μ-loop
-kind-of-requires c κs = search needs
-
-is-known-requires : tie.Need-is-known-requires Inv-loop μ-loop
-is-known-requires c κs = search needs
-
 returns : tie.Need-returns Inv-loop μ-loop
 returns c =
     let a = c .before .before .before .before .before .before .before .before .before .args in
@@ -47,12 +32,6 @@ returns c =
     λ head pl f v h.
     let l : q .j < length (associationsOf f (idOf f (a .row .0))) = omega (arith, c .before .before .before .before .before .before .before .property-count .ensures head pl f v h) in
     sym (q .inv .1 head pl f v h ∙ essential-unknown v (idOf f (a .row .0)) (q .j) l (w .result) (w .ensures head pl f v h l) (c .before .before .before .if1 .taken) (k .result) (k .ensures head pl f v h l) (u .result) (u .ensures) (not-true _ (c .if2 .taken)))
-
-add-j : tie.Need-add-j Inv-loop μ-loop
-add-j c = omega arith
-
-loop-less : tie.Need-loop-less Inv-loop μ-loop
-loop-less c = omega arith
 
 loop-again : tie.Need-loop-again Inv-loop μ-loop
 loop-again c =
@@ -79,17 +58,6 @@ returns-2 c =
 
 pub essentials-known-spec : {M : Type 1} → statement M
 essentials-known-spec =
-    tie.close
-    (tie.spec
-    Inv-loop
-    μ-loop
-    property-count-requires
-    loop-holds
-    association-of-requires
-    kind-of-requires
-    is-known-requires
-    returns
-    add-j
-    loop-less
-    loop-again
+    tie.close (tie.spec Inv-loop μ-loop (search needs) (λ c. (omega arith, λ head pl f v h. refl))
+    (λ c κs. search needs) (search needs) (search needs) returns (λ c. omega arith) (λ c. omega arith) loop-again
     returns-2)

@@ -22,14 +22,8 @@ Inv-loop table row n sizes₀ turned₀ j₀ sizes turned j = (j ≤ n) × (size
 abbrev μ-loop : tie.MeasureT-loop
 μ-loop table row n sizes₀ turned₀ j₀ sizes turned j = n - j
 
-property-count-requires : tie.Need-property-count-requires Inv-loop μ-loop
-property-count-requires c κs = search needs
-
 loop-holds : tie.Need-loop-holds Inv-loop μ-loop
 loop-holds c = (omega arith, omega arith, λ head pl f v h. good-all (typesOf f (idOf f (c .before .before .args .row .0))))
-
-kind-of-requires : tie.Need-kind-of-requires Inv-loop μ-loop
-kind-of-requires c κs = search needs
 
 returns : tie.Need-returns Inv-loop μ-loop
 returns c =
@@ -50,15 +44,6 @@ returns-2 c =
     let n = c .before .before .before .before .before .before .property-count .ensures head pl f v h in
     let m = types-many f (idOf f (a .row .0)) in
     sym (q .inv .2 head pl f v h ∙ bad-twice (typesOf f (idOf f (a .row .0))) (q .j) (omega (arith, n, m)) (k .result) (k .ensures head pl f v h (omega (arith, n))) (q .sizes) (q .turned) (c .before .before .if1 .taken) (c .if3 .taken))
-
-is-transform-requires : tie.Need-is-transform-requires Inv-loop μ-loop
-is-transform-requires c κs = search needs
-
-add-j : tie.Need-add-j Inv-loop μ-loop
-add-j c = omega arith
-
-loop-less : tie.Need-loop-less Inv-loop μ-loop
-loop-less c = omega arith
 
 loop-again : tie.Need-loop-again Inv-loop μ-loop
 loop-again c =
@@ -90,17 +75,5 @@ returns-3 c =
 
 pub has-ispe-spec : {M : Type 1} → statement M
 has-ispe-spec =
-    tie.close
-    (tie.spec
-    Inv-loop
-    μ-loop
-    property-count-requires
-    loop-holds
-    kind-of-requires
-    returns
-    returns-2
-    is-transform-requires
-    add-j
-    loop-less
-    loop-again
-    returns-3)
+    tie.close (tie.spec Inv-loop μ-loop (search needs) loop-holds (search needs) returns returns-2 (search needs)
+    (λ c. omega arith) (λ c. omega arith) loop-again returns-3)

@@ -5,15 +5,6 @@ use Rattle.declared.proofs.NamedLaws.{kind-named}
 use Rattle.declared.proofs.kind_of.Statement.{statement}
 use Rattle.declared.proofs.kind_of.Tie as tie
 
-association-of-requires : tie.Need-association-of-requires
-association-of-requires c κs = search needs
-
-index-of-requires : tie.Need-index-of-requires
-index-of-requires c κs = search needs
-
-property-type-requires : tie.Need-property-type-requires
-property-type-requires c κs = search needs
-
 returns : tie.Need-returns
 returns c =
     let a = c .before .before .before .before .args in
@@ -21,4 +12,4 @@ returns c =
     kind-named v (idOf f (a .row .0)) (a .j) l _ (c .before .before .association-of .ensures head pl f v h l) _ (c .before .index-of .ensures) _ (c .property-type .ensures head pl f v)
 
 pub kind-of-spec : {M : Type 1} → statement M
-kind-of-spec = tie.close (tie.spec association-of-requires index-of-requires property-type-requires returns)
+kind-of-spec = tie.close (tie.spec (λ c κs. search needs) (search needs) (search needs) returns)

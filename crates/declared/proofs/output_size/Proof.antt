@@ -22,36 +22,6 @@ Inv-loop head table row n size₀ j₀ size j = (j ≤ n) × ((pl : Places) (f :
 abbrev μ-loop : tie.MeasureT-loop
 μ-loop head table row n size₀ j₀ size j = n - j
 
-property-count-requires : tie.Need-property-count-requires Inv-loop μ-loop
-property-count-requires c κs = search needs
-
-loop-holds : tie.Need-loop-holds Inv-loop μ-loop
-loop-holds c = (omega arith, λ pl f v h. refl)
-
-kind-of-requires : tie.Need-kind-of-requires Inv-loop μ-loop
-kind-of-requires c κs = search needs
-
-is-transform-requires : tie.Need-is-transform-requires Inv-loop μ-loop
-is-transform-requires c κs = search needs
-
-box-of-requires : tie.Need-box-of-requires Inv-loop μ-loop
-box-of-requires c κs = search needs
-
-content-of-requires : tie.Need-content-of-requires Inv-loop μ-loop
-content-of-requires c κs = search needs
-
-turn-of-requires : tie.Need-turn-of-requires Inv-loop μ-loop
-turn-of-requires c κs = search needs
-
-size-after-requires : tie.Need-size-after-requires Inv-loop μ-loop
-size-after-requires c κs = search needs
-
-add-j : tie.Need-add-j Inv-loop μ-loop
-add-j c = omega arith
-
-loop-less : tie.Need-loop-less Inv-loop μ-loop
-loop-less c = omega arith
-
 loop-again : tie.Need-loop-again Inv-loop μ-loop
 loop-again c =
     let a = c .before .before .before .before .before .before .before .before .args in
@@ -80,19 +50,6 @@ returns c =
 
 pub output-size-spec : {M : Type 1} → statement M
 output-size-spec =
-    tie.close
-    (tie.spec
-    Inv-loop
-    μ-loop
-    property-count-requires
-    loop-holds
-    kind-of-requires
-    is-transform-requires
-    box-of-requires
-    content-of-requires
-    turn-of-requires
-    size-after-requires
-    add-j
-    loop-less
-    loop-again
-    returns)
+    tie.close (tie.spec Inv-loop μ-loop (search needs) (λ c. (omega arith, λ pl f v h. refl)) (search needs)
+    (search needs) (λ c κs. search needs) (search needs) (search needs) (search needs) (λ c. omega arith)
+    (λ c. omega arith) loop-again returns)

@@ -5,14 +5,8 @@ use Rattle.views.proofs.TableLaws.{row-small}
 use Rattle.declared.proofs.property_count.Statement.{statement}
 use Rattle.declared.proofs.property_count.Tie as tie
 
-record-word-requires : tie.Need-record-word-requires
-record-word-requires c κs = search needs
-
-cast-result : tie.Need-cast-result
-cast-result c = search needs
-
 returns : tie.Need-returns
 returns c = let r = c .before .before .args .row .0 in λ head pl f v h. c .record-word .ensures (row-small v r h) ∙ v .named-count r h
 
 pub property-count-spec : {M : Type 1} → statement M
-property-count-spec = tie.close (tie.spec record-word-requires cast-result returns)
+property-count-spec = tie.close (tie.spec (λ c κs. search needs) (search needs) returns)

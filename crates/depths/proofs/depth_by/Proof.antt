@@ -16,53 +16,8 @@ Inv-loop table rows depths r k first deepest₀ j₀ deepest j = (j ≤ k) × (d
 abbrev μ-loop : tie.MeasureT-loop
 μ-loop table rows depths r k first deepest₀ j₀ deepest j = k - j
 
-mul-word : tie.Need-mul-word Inv-loop μ-loop
-mul-word c = search needs
-
-add-word : tie.Need-add-word Inv-loop μ-loop
-add-word c = search needs
-
-word-requires : tie.Need-word-requires Inv-loop μ-loop
-word-requires c κs = search needs
-
-cast-k : tie.Need-cast-k Inv-loop μ-loop
-cast-k c = search needs
-
-mul-word-2 : tie.Need-mul-word-2 Inv-loop μ-loop
-mul-word-2 c = search needs
-
-add-word-2 : tie.Need-add-word-2 Inv-loop μ-loop
-add-word-2 c = search needs
-
-word-requires-2 : tie.Need-word-requires-2 Inv-loop μ-loop
-word-requires-2 c κs = search needs
-
-cast-first : tie.Need-cast-first Inv-loop μ-loop
-cast-first c = search needs
-
-loop-holds : tie.Need-loop-holds Inv-loop μ-loop
-loop-holds c = (omega arith, deepest-none _ _)
-
-add-word-3 : tie.Need-add-word-3 Inv-loop μ-loop
-add-word-3 c = search needs
-
-word-requires-3 : tie.Need-word-requires-3 Inv-loop μ-loop
-word-requires-3 c κs = search needs
-
-cast-word : tie.Need-cast-word Inv-loop μ-loop
-cast-word c = search needs
-
-word-requires-4 : tie.Need-word-requires-4 Inv-loop μ-loop
-word-requires-4 c κs = search needs
-
 add-d : tie.Need-add-d Inv-loop μ-loop
 add-d c = omega (arith, c .word4 .ensures, c .before .before .before .before .before .before .before .before .before .pre .1 (c .before .word3 .result))
-
-add-j : tie.Need-add-j Inv-loop μ-loop
-add-j c = search needs
-
-loop-less : tie.Need-loop-less Inv-loop μ-loop
-loop-less c = search needs
 
 loop-again : tie.Need-loop-again Inv-loop μ-loop
 loop-again c =
@@ -80,25 +35,6 @@ returns c =
 
 pub depth-by-spec : {M : Type 1} → statement M
 depth-by-spec =
-    tie.close
-    (tie.spec
-    Inv-loop
-    μ-loop
-    mul-word
-    add-word
-    word-requires
-    cast-k
-    mul-word-2
-    add-word-2
-    word-requires-2
-    cast-first
-    loop-holds
-    add-word-3
-    word-requires-3
-    cast-word
-    word-requires-4
-    add-d
-    add-j
-    loop-less
-    loop-again
-    returns)
+    tie.close (tie.spec Inv-loop μ-loop (search needs) (search needs) (search needs) (search needs) (search needs)
+    (search needs) (search needs) (search needs) (λ c. (omega arith, deepest-none _ _)) (search needs) (search needs)
+    (search needs) (search needs) add-d (search needs) (search needs) loop-again returns)

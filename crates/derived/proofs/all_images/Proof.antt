@@ -22,21 +22,6 @@ Inv-loop table rows row n j₀ j = (j ≤ n) × ((head : List ℕ) (pl : Places)
 abbrev μ-loop : tie.MeasureT-loop
 μ-loop table rows row n j₀ j = n - j
 
-input-count-requires : tie.Need-input-count-requires Inv-loop μ-loop
-input-count-requires c κs = search needs
-
-loop-holds : tie.Need-loop-holds Inv-loop μ-loop
-loop-holds c = (omega arith, λ head pl f v w h. refl)
-
-input-of-requires : tie.Need-input-of-requires Inv-loop μ-loop
-input-of-requires c κs = search needs
-
-type-of-requires : tie.Need-type-of-requires Inv-loop μ-loop
-type-of-requires c κs = search needs
-
-is-image-requires : tie.Need-is-image-requires Inv-loop μ-loop
-is-image-requires c κs = search needs
-
 returns : tie.Need-returns Inv-loop μ-loop
 returns c =
     λ head pl f v w h.
@@ -44,12 +29,6 @@ returns c =
     let j = c .before .before .before .before .before .loop .j in
     let l : j < length (targetsOf f (idOf f (a .row .0))) = omega (arith, c .before .before .before .before .before .before .input-count .ensures head pl f v h) in
     images-not f _ j l _ (input-image v (a .row .0) j l _ _ _ (c .before .before .before .input-of .ensures head pl f v w h l) (c .before .before .type-of .ensures) (c .before .is-image .ensures)) (not-true _ (c .if1 .taken)) (c .before .before .before .before .before .loop .inv .1 head pl f v w h)
-
-add-j : tie.Need-add-j Inv-loop μ-loop
-add-j c = search needs
-
-loop-less : tie.Need-loop-less Inv-loop μ-loop
-loop-less c = search needs
 
 loop-again : tie.Need-loop-again Inv-loop μ-loop
 loop-again c = (
@@ -66,17 +45,5 @@ returns-2 c = λ head pl f v w h. images-all f _ (c .before .loop .j) (omega (ar
 
 pub all-images-spec : {M : Type 1} → statement M
 all-images-spec =
-    tie.close
-    (tie.spec
-    Inv-loop
-    μ-loop
-    input-count-requires
-    loop-holds
-    input-of-requires
-    type-of-requires
-    is-image-requires
-    returns
-    add-j
-    loop-less
-    loop-again
-    returns-2)
+    tie.close (tie.spec Inv-loop μ-loop (search needs) (λ c. (omega arith, λ head pl f v w h. refl)) (search needs)
+    (search needs) (search needs) returns (search needs) (search needs) loop-again returns-2)

@@ -5,31 +5,11 @@ use Rattle.derived.proofs.BodyLaws.{body-gone, body-here}
 use Rattle.derived.proofs.body_of.Statement.{statement}
 use Rattle.derived.proofs.body_of.Tie as tie
 
-record-word-requires : tie.Need-record-word-requires
-record-word-requires c κs = search needs
-
-extent-of-requires : tie.Need-extent-of-requires
-extent-of-requires c κs = search needs
-
-part-requires : tie.Need-part-requires
-part-requires c κs = search needs
-
 returns : tie.Need-returns
 returns c = λ total pl f v h placed. body-here v total (c .before .before .before .before .before .before .args .row .0) h placed (omega arith) _ (c .before .before .before .record-word .ensures) (c .before .before .if1 .taken) _ _ (c .before .extent-of .ensures _ pl f v h) _ (c .part .ensures .0) (c .part .ensures .1)
-
-slice-aggregate-result : tie.Need-slice-aggregate-result
-slice-aggregate-result c = search needs
 
 returns-2 : tie.Need-returns-2
 returns-2 c = λ total pl f v h placed. body-gone v total (c .before .before .before .before .before .args .row .0) h placed _ (c .before .before .record-word .ensures) (c .before .if1 .left)
 
 pub body-of-spec : {M : Type 1} → statement M
-body-of-spec =
-    tie.close
-    (tie.spec
-    record-word-requires
-    extent-of-requires
-    part-requires
-    returns
-    slice-aggregate-result
-    returns-2)
+body-of-spec = tie.close (tie.spec (λ c κs. search needs) (search needs) (search needs) returns (search needs) returns-2)

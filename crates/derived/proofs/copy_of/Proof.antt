@@ -6,12 +6,6 @@ use Rattle.derived.proofs.RecipeLaws.{copy-is, copy-extents, copy-input
 use Rattle.derived.proofs.copy_of.Statement.{statement}
 use Rattle.derived.proofs.copy_of.Tie as tie
 
-input-count-requires : tie.Need-input-count-requires
-input-count-requires c κs = search needs
-
-record-word-requires : tie.Need-record-word-requires
-record-word-requires c κs = search needs
-
 returns : tie.Need-returns
 returns c = λ total head pl f v h. copy-is total head f (itemAt f (c .before .before .before .before .before .args .row .0)) _ (c .before .before .before .input-count .ensures head pl f v h) _ (extents-counted v (c .before .before .before .before .before .args .row .0) h _ (c .before .record-word .ensures)) (c .before .before .if1 .taken) (c .if2 .taken)
 
@@ -22,5 +16,4 @@ returns-3 : tie.Need-returns-3
 returns-3 c = λ total head pl f v h. copy-inputs total head f (itemAt f (c .before .before .before .args .row .0)) _ (c .before .input-count .ensures head pl f v h) (c .if1 .left)
 
 pub copy-of-spec : {M : Type 1} → statement M
-copy-of-spec =
-    tie.close (tie.spec input-count-requires record-word-requires returns returns-2 returns-3)
+copy-of-spec = tie.close (tie.spec (search needs) (λ c κs. search needs) returns returns-2 returns-3)

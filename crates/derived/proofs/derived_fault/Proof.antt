@@ -7,12 +7,6 @@ use Rattle.derived.proofs.RecipeLaws.{fault-17, no-fault}
 use Rattle.derived.proofs.derived_fault.Statement.{statement}
 use Rattle.derived.proofs.derived_fault.Tie as tie
 
-recipe-of-requires : tie.Need-recipe-of-requires
-recipe-of-requires c κs = search needs
-
-enum-told : tie.Need-enum-told
-enum-told c = search needs
-
 returns : tie.Need-returns
 returns c = λ total pl f v w h placed. fault-17 total _ f (itemAt f (c .before .before .before .before .before .before .args .row .0)) _ (c .before .before .recipe-of .ensures total pl f v w h placed) (c .enum-told .given .1)
 
@@ -20,4 +14,4 @@ returns-2 : tie.Need-returns-2
 returns-2 c = λ total pl f v w h placed. no-fault total _ f (itemAt f (c .before .before .before .before .before .args .row .0)) _ (c .before .recipe-of .ensures total pl f v w h placed) (λ e. miss (0 ∷ 1 ∷ 2 ∷ 3 ∷ 4 ∷ []) 5 tt (rw e at (c .match .keys2)))
 
 pub derived-fault-spec : {M : Type 1} → statement M
-derived-fault-spec = tie.close (tie.spec recipe-of-requires enum-told returns returns-2)
+derived-fault-spec = tie.close (tie.spec (search needs) (search needs) returns returns-2)

@@ -4,14 +4,8 @@ use Rattle.derived.proofs.InputLaws.{inputs-counted}
 use Rattle.derived.proofs.input_count.Statement.{statement}
 use Rattle.derived.proofs.input_count.Tie as tie
 
-record-word-requires : tie.Need-record-word-requires
-record-word-requires c κs = search needs
-
-cast-result : tie.Need-cast-result
-cast-result c = search needs
-
 returns : tie.Need-returns
 returns c = λ head pl f v h. inputs-counted v (c .before .before .args .row .0) h _ (c .record-word .ensures)
 
 pub input-count-spec : {M : Type 1} → statement M
-input-count-spec = tie.close (tie.spec record-word-requires cast-result returns)
+input-count-spec = tie.close (tie.spec (λ c κs. search needs) (search needs) returns)

@@ -5,21 +5,6 @@ use Rattle.derived.proofs.InputLaws.{inputs-few, input-row}
 use Rattle.derived.proofs.input_of.Statement.{statement}
 use Rattle.derived.proofs.input_of.Tie as tie
 
-record-word-requires : tie.Need-record-word-requires
-record-word-requires c κs = search needs
-
-cast-first : tie.Need-cast-first
-cast-first c = search needs
-
-add-word : tie.Need-add-word
-add-word c = search needs
-
-word-requires : tie.Need-word-requires
-word-requires c κs = search needs
-
-cast-t10 : tie.Need-cast-t10
-cast-t10 c = search needs
-
 returns : tie.Need-returns
 returns c = λ head pl f v w h l. input-row v (c .before .before .before .before .before .args .row .0) h (c .before .before .before .before .before .args .rows .now) w (c .before .before .before .before .before .args .j) l _ _ (c .before .before .record-word .ensures) (c .word .ensures)
 
@@ -28,5 +13,5 @@ returns-2 c = λ head pl f v w h l. absurd (omega (arith, inputs-few v (c .befor
 
 pub input-of-spec : {M : Type 1} → statement M
 input-of-spec =
-    tie.close
-    (tie.spec record-word-requires cast-first add-word word-requires cast-t10 returns returns-2)
+    tie.close (tie.spec (λ c κs. search needs) (search needs) (search needs) (search needs) (search needs) returns
+    returns-2)

@@ -8,26 +8,11 @@ use Rattle.derived.proofs.RecipeLaws.{layers-none, layers-wrong, layers
 use Rattle.derived.proofs.layers_of.Statement.{statement}
 use Rattle.derived.proofs.layers_of.Tie as tie
 
-input-count-requires : tie.Need-input-count-requires
-input-count-requires c κs = search needs
-
 returns : tie.Need-returns
 returns c = λ total pl f v h placed. layers-none total _ f (itemAt f (c .before .before .before .before .args .row .0)) _ (c .before .input-count .ensures _ pl f v h) (c .if1 .taken)
 
 returns-2 : tie.Need-returns-2
 returns-2 c = λ total pl f v h placed. absurd (omega (arith, inputs-few v (c .before .before .before .before .before .args .row .0) h, c .before .before .input-count .ensures (c .before .before .before .before .before .args .head .now) pl f v h))
-
-body-of-requires : tie.Need-body-of-requires
-body-of-requires c κs = search needs
-
-read-overlay-requires : tie.Need-read-overlay-requires
-read-overlay-requires c κs = search needs
-
-enum-told : tie.Need-enum-told
-enum-told c = search needs
-
-enum-known-o : tie.Need-enum-known-o
-enum-known-o c = search needs
 
 returns-3 : tie.Need-returns-3
 returns-3 c = λ total pl f v h placed. layers-wrong total _ f (itemAt f (c .before .before .before .before .before .before .before .before .before .args .row .0)) _ (c .before .before .before .before .before .before .input-count .ensures _ pl f v h) _ (c .before .before .before .body-of .ensures total pl f v h placed) (sym (c .enum-told .given .1) ∙ c .before .before .read-overlay .ensures)
@@ -37,14 +22,5 @@ returns-4 c = λ total pl f v h placed. layers-is total _ f (itemAt f (c .before
 
 pub layers-of-spec : {M : Type 1} → statement M
 layers-of-spec =
-    tie.close
-    (tie.spec
-    input-count-requires
-    returns
-    returns-2
-    body-of-requires
-    read-overlay-requires
-    enum-told
-    enum-known-o
-    returns-3
-    returns-4)
+    tie.close (tie.spec (search needs) returns returns-2 (λ c κs. search needs) (λ c κs. search needs) (search needs)
+    (search needs) returns-3 returns-4)

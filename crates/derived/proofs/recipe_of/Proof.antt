@@ -4,31 +4,16 @@ use borrow.Author.Tests.{not-true, not-false}
 use borrow.Author.Needs.{needs}
 use Rattle.boxes.specs.Types.{derived}
 use Rattle.rules.specs.Joined.{itemAt}
-use Rattle.derived.proofs.InputLaws.{type-read, test-read}
+use Rattle.views.proofs.TableLaws.{type-read, test-read}
 use Rattle.derived.proofs.RecipeLaws.{derived-inputs, derived-copy, derived-tiles, derived-layers}
 use Rattle.derived.proofs.recipe_of.Statement.{statement}
 use Rattle.derived.proofs.recipe_of.Tie as tie
 
-type-of-requires : tie.Need-type-of-requires
-type-of-requires c κs = search needs
-
-is-derived-requires : tie.Need-is-derived-requires
-is-derived-requires c κs = search needs
-
-underived-requires : tie.Need-underived-requires
-underived-requires c κs = search needs
-
 returns : tie.Need-returns
 returns c = λ total pl f v w h placed. c .underived .ensures total _ pl f v h (test-read v (c .before .before .before .before .before .before .before .args .row .0) h derived _ _ (c .before .before .before .type-of .ensures) (c .before .before .is-derived .ensures) ∙ not-true _ (c .before .if1 .taken))
 
-all-images-requires : tie.Need-all-images-requires
-all-images-requires c κs = search needs
-
 returns-2 : tie.Need-returns-2
 returns-2 c = λ total pl f v w h placed. derived-inputs total _ f (itemAt f (c .before .before .before .before .before .before .before .before .args .row .0)) (test-read v (c .before .before .before .before .before .before .before .before .args .row .0) h derived _ _ (c .before .before .before .before .type-of .ensures) (c .before .before .before .is-derived .ensures) ∙ not-false _ (c .before .before .if1 .left)) (sym (c .before .all-images .ensures _ pl f v w h) ∙ not-true _ (c .if2 .taken))
-
-copy-of-requires : tie.Need-copy-of-requires
-copy-of-requires c κs = search needs
 
 returns-3 : tie.Need-returns-3
 returns-3 c =
@@ -37,18 +22,12 @@ returns-3 c =
     c .copy-of .ensures total _ pl f v h
     ∙ derived-copy total _ f (itemAt f (c .before .before .before .before .before .before .before .before .before .before .args .row .0)) (test-read v (c .before .before .before .before .before .before .before .before .before .before .args .row .0) h derived _ _ (c .before .before .before .before .before .before .type-of .ensures) (c .before .before .before .before .before .is-derived .ensures) ∙ not-false _ (c .before .before .before .before .if1 .left)) (sym (c .before .before .before .all-images .ensures _ pl f v w h) ∙ not-false _ (c .before .before .if2 .left)) (sym kind ∙ c .before .if3 .taken)
 
-tiles-of-requires : tie.Need-tiles-of-requires
-tiles-of-requires c κs = search needs
-
 returns-4 : tie.Need-returns-4
 returns-4 c =
     λ total pl f v w h placed.
     let kind = type-read v (c .before .before .before .before .before .before .before .before .before .before .before .args .row .0) h _ (c .before .before .before .before .before .before .before .type-of .ensures) in
     c .tiles-of .ensures total pl f v h placed
     ∙ derived-tiles total _ f (itemAt f (c .before .before .before .before .before .before .before .before .before .before .before .args .row .0)) (test-read v (c .before .before .before .before .before .before .before .before .before .before .before .args .row .0) h derived _ _ (c .before .before .before .before .before .before .before .type-of .ensures) (c .before .before .before .before .before .before .is-derived .ensures) ∙ not-false _ (c .before .before .before .before .before .if1 .left)) (sym (c .before .before .before .before .all-images .ensures _ pl f v w h) ∙ not-false _ (c .before .before .before .if2 .left)) (λ q. c .before .before .if3 .left (kind ∙ q)) (sym kind ∙ c .before .if4 .taken)
-
-layers-of-requires : tie.Need-layers-of-requires
-layers-of-requires c κs = search needs
 
 returns-5 : tie.Need-returns-5
 returns-5 c =
@@ -59,17 +38,5 @@ returns-5 c =
 
 pub recipe-of-spec : {M : Type 1} → statement M
 recipe-of-spec =
-    tie.close
-    (tie.spec
-    type-of-requires
-    is-derived-requires
-    underived-requires
-    returns
-    all-images-requires
-    returns-2
-    copy-of-requires
-    returns-3
-    tiles-of-requires
-    returns-4
-    layers-of-requires
-    returns-5)
+    tie.close (tie.spec (search needs) (search needs) (search needs) returns (search needs) returns-2 (search needs)
+    returns-3 (search needs) returns-4 (search needs) returns-5)

@@ -2,24 +2,9 @@
 use native.Mathlib.Omega.{arith}
 use mathlib.Core.Path.{sym, _∙_}
 use borrow.Author.Needs.{needs}
-use Rattle.derived.proofs.InputLaws.{told-at, told-nothing}
+use Rattle.views.proofs.LookupLaws.{told-at, told-nothing}
 use Rattle.derived.proofs.row_or_end.Statement.{statement}
 use Rattle.derived.proofs.row_or_end.Tie as tie
-
-row-named-requires : tie.Need-row-named-requires
-row-named-requires c κs = search needs
-
-enum-known-found : tie.Need-enum-known-found
-enum-known-found c = search needs
-
-cast-result : tie.Need-cast-result
-cast-result c = search needs
-
-enum-told : tie.Need-enum-told
-enum-told c = search needs
-
-word-requires : tie.Need-word-requires
-word-requires c κs = search needs
 
 returns : tie.Need-returns
 returns c = λ head pl f v. told-at _ (f .items) _ (sym (c .before .before .found .given .1) ∙ c .before .before .before .before .row-named .ensures head pl f v) .0
@@ -32,13 +17,5 @@ returns-3 c = λ head pl f v. c .word .ensures ∙ v .items ∙ told-nothing _ (
 
 pub row-or-end-spec : {M : Type 1} → statement M
 row-or-end-spec =
-    tie.close
-    (tie.spec
-    row-named-requires
-    enum-known-found
-    cast-result
-    enum-told
-    word-requires
-    returns
-    returns-2
+    tie.close (tie.spec (search needs) (search needs) (search needs) (search needs) (search needs) returns returns-2
     returns-3)

@@ -8,27 +8,6 @@ use Rattle.derived.proofs.RecipeLaws.{tiles-wrong, tiles-is, tiles-inpu
 use Rattle.derived.proofs.tiles_of.Statement.{statement}
 use Rattle.derived.proofs.tiles_of.Tie as tie
 
-body-of-requires : tie.Need-body-of-requires
-body-of-requires c κs = search needs
-
-read-grid-requires : tie.Need-read-grid-requires
-read-grid-requires c κs = search needs
-
-enum-told : tie.Need-enum-told
-enum-told c = search needs
-
-enum-known-g : tie.Need-enum-known-g
-enum-known-g c = search needs
-
-input-count-requires : tie.Need-input-count-requires
-input-count-requires c κs = search needs
-
-cast-if1 : tie.Need-cast-if1
-cast-if1 c = search needs
-
-cast-if1-2 : tie.Need-cast-if1-2
-cast-if1-2 c = search needs
-
 mul-if1 : tie.Need-mul-if1
 mul-if1 c = omega (arith, mul-le-mul-right {m = c .before .before .g .given .0 .0} {n = 4294967295} (c .before .before .g .given .0 .1 .0) (omega arith))
 
@@ -43,16 +22,5 @@ returns-3 c = λ total pl f v h placed. tiles-inputs total _ f (itemAt f (c .bef
 
 pub tiles-of-spec : {M : Type 1} → statement M
 tiles-of-spec =
-    tie.close
-    (tie.spec
-    body-of-requires
-    read-grid-requires
-    enum-told
-    enum-known-g
-    input-count-requires
-    cast-if1
-    cast-if1-2
-    mul-if1
-    returns
-    returns-2
-    returns-3)
+    tie.close (tie.spec (λ c κs. search needs) (search needs) (search needs) (search needs) (search needs) (search needs)
+    (search needs) mul-if1 returns returns-2 returns-3)

@@ -3,22 +3,13 @@ use mathlib.Core.Path.{_∙_}
 use borrow.Author.Needs.{needs}
 use Rattle.boxes.specs.Types.{coded}
 use Rattle.rules.specs.Joined.{itemAt}
-use Rattle.derived.proofs.InputLaws.{test-read}
+use Rattle.views.proofs.TableLaws.{test-read}
 use Rattle.derived.proofs.RecipeLaws.{plain-inputs, plain-coded, plain-opaque}
 use Rattle.derived.proofs.underived.Statement.{statement}
 use Rattle.derived.proofs.underived.Tie as tie
 
-input-count-requires : tie.Need-input-count-requires
-input-count-requires c κs = search needs
-
 returns : tie.Need-returns
 returns c = λ total head pl f v h e. plain-inputs total head f (itemAt f (c .before .before .before .args .row .0)) _ (c .before .input-count .ensures head pl f v h) e (c .if1 .taken)
-
-type-of-requires : tie.Need-type-of-requires
-type-of-requires c κs = search needs
-
-is-coded-requires : tie.Need-is-coded-requires
-is-coded-requires c κs = search needs
 
 returns-2 : tie.Need-returns-2
 returns-2 c = λ total head pl f v h e. plain-coded total head f (itemAt f (c .before .before .before .before .before .before .args .row .0)) _ (c .before .before .before .before .input-count .ensures head pl f v h) e (c .before .before .before .if1 .left) (test-read v (c .before .before .before .before .before .before .args .row .0) h coded _ _ (c .before .before .type-of .ensures) (c .before .is-coded .ensures) ∙ c .if2 .taken)
@@ -27,6 +18,4 @@ returns-3 : tie.Need-returns-3
 returns-3 c = λ total head pl f v h e. plain-opaque total head f (itemAt f (c .before .before .before .before .before .before .args .row .0)) _ (c .before .before .before .before .input-count .ensures head pl f v h) e (c .before .before .before .if1 .left) (test-read v (c .before .before .before .before .before .before .args .row .0) h coded _ _ (c .before .before .type-of .ensures) (c .before .is-coded .ensures) ∙ c .if2 .left)
 
 pub underived-spec : {M : Type 1} → statement M
-underived-spec =
-    tie.close
-    (tie.spec input-count-requires returns type-of-requires is-coded-requires returns-2 returns-3)
+underived-spec = tie.close (tie.spec (search needs) returns (search needs) (search needs) returns-2 returns-3)

@@ -6,13 +6,6 @@ use native.Mathlib.Omega.{arith}
 use borrow.Author.Needs.{needs}
 use Rattle.fields.proofs.be_id.Statement.{statement}
 use Rattle.fields.proofs.be_id.Tie as tie
-use Rattle.fields.proofs.be_id.Reads as reads
-use Rattle.fields.proofs.be_id.Lts as lts
-use Rattle.fields.proofs.be16.Reads as be16-reads
-use Rattle.fields.proofs.be32.Reads as be32-reads
-
-be16-requires : tie.Need-be16-requires
-be16-requires c κs = search needs
 
 returns : tie.Need-returns
 returns c = c .be16 .ensures ∙ ap (beAt (c .before .before .before .args .s .now) (c .before .before .before .args .at)) (sym (c .before .if1 .taken))
@@ -24,4 +17,4 @@ returns-2 : tie.Need-returns-2
 returns-2 c = c .be32 .ensures ∙ ap (beAt (c .before .before .before .args .s .now) (c .before .before .before .args .at)) (sym (four (c .before .before .before .args .n) (c .before .before .before .pre .1) (c .before .if1 .left)))
 
 pub be-id-spec : {M : Type 1} → statement M
-be-id-spec = tie.close (tie.spec be16-requires returns be32-requires returns-2)
+be-id-spec = tie.close (tie.spec (search needs) returns be32-requires returns-2)

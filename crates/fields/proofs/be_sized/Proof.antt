@@ -6,19 +6,9 @@ use native.Mathlib.Omega.{arith}
 use borrow.Author.Needs.{needs}
 use Rattle.fields.proofs.be_sized.Statement.{statement}
 use Rattle.fields.proofs.be_sized.Tie as tie
-use Rattle.fields.proofs.be_sized.Reads as reads
-use Rattle.fields.proofs.be_sized.Lts as lts
-use Rattle.fields.proofs.be32.Reads as be32-reads
-use Rattle.fields.proofs.be64.Reads as be64-reads
 
 returns : tie.Need-returns
 returns c = sym (ap (beAt (c .before .before .args .s .now) (c .before .before .args .at)) (c .if1 .taken) ∙ be-none (c .before .before .args .s .now) (c .before .before .args .at))
-
-be32-requires : tie.Need-be32-requires
-be32-requires c κs = search needs
-
-cast-result : tie.Need-cast-result
-cast-result c = search needs
 
 returns-2 : tie.Need-returns-2
 returns-2 c = c .be32 .ensures ∙ ap (beAt (c .before .before .before .before .args .s .now) (c .before .before .before .before .args .at)) (sym (c .before .if2 .taken))
@@ -30,5 +20,4 @@ returns-3 : tie.Need-returns-3
 returns-3 c = c .be64 .ensures ∙ ap (beAt (c .before .before .before .before .args .s .now) (c .before .before .before .before .args .at)) (sym (eight (c .before .before .before .before .args .n) (c .before .before .before .before .pre .1) (c .before .before .if1 .left) (c .before .if2 .left)))
 
 pub be-sized-spec : {M : Type 1} → statement M
-be-sized-spec =
-    tie.close (tie.spec returns be32-requires cast-result returns-2 be64-requires returns-3)
+be-sized-spec = tie.close (tie.spec returns (search needs) (search needs) returns-2 be64-requires returns-3)

@@ -12,21 +12,12 @@ add-if1 c = ⊎-elim (λ e. omega arith) (λ e. omega arith) (c .before .pre .1)
 returns : tie.Need-returns
 returns c = let a = c .before .before .args in λ h e w. count-short (a .place) (a .s .now) h _ (c .before .before .pre .0) e w (c .if1 .taken)
 
-be-id-requires : tie.Need-be-id-requires
-be-id-requires c κs = search needs
-
 returns-2 : tie.Need-returns-2
 returns-2 c = let a = c .before .before .before .before .args in λ h e w. count-many (a .place) (a .s .now) h _ (c .before .before .before .before .pre .0) e w (c .before .before .if1 .left) _ (c .before .be-id .ensures) (c .if2 .taken)
-
-cast-t5 : tie.Need-cast-t5
-cast-t5 c = search needs
-
-add-t6 : tie.Need-add-t6
-add-t6 c = search needs
 
 returns-3 : tie.Need-returns-3
 returns-3 c = let a = c .before .before .before .before .args in λ h e w. (count-is (a .place) (a .s .now) h _ (c .before .before .before .before .pre .0) e w (c .before .before .if1 .left) _ (c .before .be-id .ensures) (c .if2 .left), c .before .before .if1 .left, c .if2 .left)
 
 pub count-of-spec : {M : Type 1} → statement M
 count-of-spec =
-    tie.close (tie.spec add-if1 returns be-id-requires returns-2 cast-t5 add-t6 returns-3)
+    tie.close (tie.spec add-if1 returns (λ c κs. search needs) returns-2 (search needs) (search needs) returns-3)

@@ -6,15 +6,6 @@ use borrow.Author.Needs.{needs}
 use Rattle.items.proofs.next_item.Statement.{statement}
 use Rattle.items.proofs.next_item.Tie as tie
 
-child-at-requires : tie.Need-child-at-requires
-child-at-requires c κs = search needs
-
-enum-known-c : tie.Need-enum-known-c
-enum-known-c c = search needs
-
-add-here : tie.Need-add-here
-add-here c = search needs
-
 returns : tie.Need-returns
 returns c = let a = c .before .before .before .before .before .before .before .args in λ before ids. next-kind (a .s .now) (a .at) (a .place) (a .base) before _ _ _ (sym (c .before .before .before .before .child-at .ensures) ∙ c .before .before .c .given .1) (c .if1 .taken)
 
@@ -26,27 +17,6 @@ part-read-infe-start c = let a = c .before .before .before .before .before .befo
 
 part-read-infe-end : tie.Need-part-read-infe-end
 part-read-infe-end c = let a = c .before .before .before .before .before .before .before .args in let r = child-room (a .s .now) (a .at) _ _ _ (sym (c .before .before .before .before .child-at .ensures) ∙ c .before .before .c .given .1) in omega arith
-
-read-infe-requires : tie.Need-read-infe-requires
-read-infe-requires c κs = search needs
-
-enum-known-r : tie.Need-enum-known-r
-enum-known-r c = search needs
-
-enum-known-r-2 : tie.Need-enum-known-r-2
-enum-known-r-2 c = search needs
-
-enum-told : tie.Need-enum-told
-enum-told c = search needs
-
-add-t26 : tie.Need-add-t26
-add-t26 c = search needs
-
-enum-told-2 : tie.Need-enum-told-2
-enum-told-2 c = search needs
-
-enum-told-3 : tie.Need-enum-told-3
-enum-told-3 c = search needs
 
 returns-2 : tie.Need-returns-2
 returns-2 c = let a = c .before .before .before .before .before .before .before .before .before .before .before .before .args in λ before ids. next-is (a .s .now) (a .at) (a .place) (a .base) before _ _ _ (sym (c .before .before .before .before .before .before .before .before .before .child-at .ensures) ∙ c .before .before .before .before .before .before .before .c .given .1) (c .before .before .before .before .before .if1 .left) _ _ (c .before .before .before .read-infe .ensures) ids _ (c .before .r .given .1)
@@ -65,24 +35,6 @@ returns-6 c = let a = c .before .before .before .before .before .args in λ befo
 
 pub next-item-spec : {M : Type 1} → statement M
 next-item-spec =
-    tie.close
-    (tie.spec
-    child-at-requires
-    enum-known-c
-    add-here
-    returns
-    sub-read-infe
-    part-read-infe-start
-    part-read-infe-end
-    read-infe-requires
-    enum-known-r
-    enum-known-r-2
-    enum-told
-    add-t26
-    enum-told-2
-    enum-told-3
-    returns-2
-    returns-3
-    returns-4
-    returns-5
-    returns-6)
+    tie.close (tie.spec (search needs) (search needs) (search needs) returns sub-read-infe part-read-infe-start
+    part-read-infe-end (λ c κs. search needs) (search needs) (search needs) (search needs) (search needs)
+    (search needs) (search needs) returns-2 returns-3 returns-4 returns-5 returns-6)

@@ -6,64 +6,10 @@ use borrow.Author.Needs.{needs}
 use Rattle.items.proofs.put_item.Statement.{statement}
 use Rattle.items.proofs.put_item.Tie as tie
 
-item-requires : tie.Need-item-requires
-item-requires c κs = search needs
-
-mul-table : tie.Need-mul-table
-mul-table c = search needs
-
-slice-write-table : tie.Need-slice-write-table
-slice-write-table c = search needs
-
-add-table : tie.Need-add-table
-add-table c = search needs
-
-mul-table-2 : tie.Need-mul-table-2
-mul-table-2 c = search needs
-
-slice-write-table-2 : tie.Need-slice-write-table-2
-slice-write-table-2 c = simp length-set (omega arith)
-
-add-table-2 : tie.Need-add-table-2
-add-table-2 c = search needs
-
-mul-table-3 : tie.Need-mul-table-3
-mul-table-3 c = search needs
-
-slice-write-table-3 : tie.Need-slice-write-table-3
-slice-write-table-3 c = simp length-set (omega arith)
-
-add-table-3 : tie.Need-add-table-3
-add-table-3 c = search needs
-
-mul-table-4 : tie.Need-mul-table-4
-mul-table-4 c = search needs
-
-slice-write-table-4 : tie.Need-slice-write-table-4
-slice-write-table-4 c = simp length-set (omega arith)
-
-same-length : tie.Need-same-length
-same-length c = search needs
-
-returns : tie.Need-returns
-unfolding rowPut
-returns c = rw (c .before .item .ensures)
-
 pub put-item-spec : {M : Type 1} → statement M
+unfolding rowPut
 put-item-spec =
-    tie.close
-    (tie.spec
-    item-requires
-    mul-table
-    slice-write-table
-    add-table
-    mul-table-2
-    slice-write-table-2
-    add-table-2
-    mul-table-3
-    slice-write-table-3
-    add-table-3
-    mul-table-4
-    slice-write-table-4
-    same-length
-    returns)
+    tie.close (tie.spec (λ c κs. search needs) (search needs) (search needs) (search needs) (search needs)
+    (λ c. simp length-set (omega arith)) (search needs) (search needs) (λ c. simp length-set (omega arith))
+    (search needs) (search needs) (λ c. simp length-set (omega arith)) (search needs)
+    (λ c. rw (c .before .item .ensures)))

@@ -10,15 +10,6 @@ use borrow.Author.Needs.{needs}
 use Rattle.items.proofs.read_count.Statement.{statement}
 use Rattle.items.proofs.read_count.Tie as tie
 
-read-full-requires : tie.Need-read-full-requires
-read-full-requires c κs = search needs
-
-enum-known-h : tie.Need-enum-known-h
-enum-known-h c = search needs
-
-enum-known-h-2 : tie.Need-enum-known-h-2
-enum-known-h-2 c = search needs
-
 count-of-requires : tie.Need-count-of-requires
 count-of-requires c κs = let a = c .before .before .before .before .before .before .args in (full-here (upto 1) (a .place) (a .s .now) _ _ (sym (c .before .before .before .before .read-full .ensures) ∙ c .before .before .h2 .given .1) .room, inl refl)
 
@@ -36,13 +27,5 @@ returns-3 c = let a = c .before .before .before .before .before .before .before 
 
 pub read-count-spec : {M : Type 1} → statement M
 read-count-spec =
-    tie.close
-    (tie.spec
-    read-full-requires
-    enum-known-h
-    enum-known-h-2
-    count-of-requires
-    returns
-    count-of-requires-2
-    returns-2
-    returns-3)
+    tie.close (tie.spec (search needs) (search needs) (search needs) count-of-requires returns count-of-requires-2
+    returns-2 returns-3)

@@ -11,15 +11,6 @@ use borrow.Author.Needs.{needs}
 use Rattle.items.proofs.read_infe.Statement.{statement}
 use Rattle.items.proofs.read_infe.Tie as tie
 
-read-full-requires : tie.Need-read-full-requires
-read-full-requires c κs = search needs
-
-enum-known-h : tie.Need-enum-known-h
-enum-known-h c = search needs
-
-enum-known-h-2 : tie.Need-enum-known-h-2
-enum-known-h-2 c = search needs
-
 read-info-requires : tie.Need-read-info-requires
 read-info-requires c κs = let a = c .before .before .before .before .before .before .before .args in (full-here (between 2 3) (a .place) (a .s .now) _ _ (sym (c .before .before .before .before .read-full .ensures) ∙ c .before .before .h2 .given .1) .room, inl refl, c .before .before .before .before .before .before .before .pre)
 
@@ -38,13 +29,5 @@ returns-3 c = let a = c .before .before .before .before .before .before .before 
 
 pub read-infe-spec : {M : Type 1} → statement M
 read-infe-spec =
-    tie.close
-    (tie.spec
-    read-full-requires
-    enum-known-h
-    enum-known-h-2
-    read-info-requires
-    returns
-    read-info-requires-2
-    returns-2
-    returns-3)
+    tie.close (tie.spec (search needs) (search needs) (search needs) read-info-requires returns read-info-requires-2
+    returns-2 returns-3)

@@ -16,12 +16,6 @@ returns : tie.Need-returns
 unfolding toldInfe
 returns c = let a = c .before .before .before .args in λ v h w before e. sym (ap toldInfe (infe-short before (a .place) (a .s .now) v _ _ (c .before .before .before .pre .0) h w (c .if1 .taken)))
 
-be-id-requires : tie.Need-be-id-requires
-be-id-requires c κs = search needs
-
-is-taken-requires : tie.Need-is-taken-requires
-is-taken-requires c κs = search needs
-
 returns-2 : tie.Need-returns-2
 unfolding toldInfe
 returns-2 c = let a = c .before .before .before .before .before .before .args in λ v h w before e. sym (ap toldInfe (infe-taken before (a .place) (a .s .now) v _ _ (c .before .before .before .before .before .before .pre .0) h w (c .before .before .before .if1 .left) (taken-is _ true _ _ _ _ (c .before .is-taken .ensures) (c .if2 .taken) (c .before .before .be-id .ensures) e)))
@@ -33,35 +27,11 @@ returns-3 : tie.Need-returns-3
 unfolding toldInfe
 returns-3 c = let a = c .before .before .before .before .before .before .before .args in λ v h w before e. sym (ap toldInfe (infe-cut before (a .place) (a .s .now) v _ _ (c .before .before .before .before .before .before .before .pre .0) h w (c .before .before .before .before .if1 .left) (taken-is _ false _ _ _ _ (c .before .before .is-taken .ensures) (c .before .if2 .left) (c .before .before .before .be-id .ensures) e) (c .if3 .taken)))
 
-add-be32 : tie.Need-add-be32
-add-be32 c = search needs
-
-be32-requires : tie.Need-be32-requires
-be32-requires c κs = search needs
-
-add-be16 : tie.Need-add-be16
-add-be16 c = search needs
-
-be16-requires : tie.Need-be16-requires
-be16-requires c κs = search needs
-
 returns-4 : tie.Need-returns-4
 unfolding toldInfe
 returns-4 c = let a = c .before .before .before .before .before .before .before .before .before .args in λ v h w before e. rw (c .before .before .before .before .before .be-id .ensures, c .before .be32 .ensures, c .be16 .ensures) (sym (ap toldInfe (infe-is before (a .place) (a .s .now) v _ _ (c .before .before .before .before .before .before .before .before .before .pre .0) h w (c .before .before .before .before .before .before .if1 .left) (taken-is _ false _ _ _ _ (c .before .before .before .before .is-taken .ensures) (c .before .before .before .if2 .left) (c .before .before .before .before .before .be-id .ensures) e) (c .before .before .if3 .left))))
 
 pub read-info-spec : {M : Type 1} → statement M
 read-info-spec =
-    tie.close
-    (tie.spec
-    add-if1
-    returns
-    be-id-requires
-    is-taken-requires
-    returns-2
-    add-if3
-    returns-3
-    add-be32
-    be32-requires
-    add-be16
-    be16-requires
-    returns-4)
+    tie.close (tie.spec add-if1 returns (λ c κs. search needs) (λ c κs. search needs) returns-2 add-if3 returns-3
+    (search needs) (λ c κs. search needs) (search needs) (λ c κs. search needs) returns-4)

@@ -6,42 +6,6 @@ use borrow.Author.Needs.{needs}
 use Rattle.judging.proofs.fault_of.Statement.{statement}
 use Rattle.judging.proofs.fault_of.Tie as tie
 
-enum-told : tie.Need-enum-told
-enum-told c = search needs
-
-place-fault-requires : tie.Need-place-fault-requires
-place-fault-requires c κs = search needs
-
-enum-told-2 : tie.Need-enum-told-2
-enum-told-2 c = search needs
-
-declared-fault-requires : tie.Need-declared-fault-requires
-declared-fault-requires c κs = search needs
-
-enum-told-3 : tie.Need-enum-told-3
-enum-told-3 c = search needs
-
-derived-fault-requires : tie.Need-derived-fault-requires
-derived-fault-requires c κs = search needs
-
-enum-told-4 : tie.Need-enum-told-4
-enum-told-4 c = search needs
-
-itself-fault-requires : tie.Need-itself-fault-requires
-itself-fault-requires c κs = search needs
-
-enum-told-5 : tie.Need-enum-told-5
-enum-told-5 c = search needs
-
-deep-fault-requires : tie.Need-deep-fault-requires
-deep-fault-requires c κs = search needs
-
-enum-known-rule : tie.Need-enum-known-rule
-enum-known-rule c = search needs
-
-size-fault-requires : tie.Need-size-fault-requires
-size-fault-requires c κs = search needs
-
 returns : tie.Need-returns
 unfolding ruleBy
 returns c = λ f h l. by-rule _ _ _ _ _ f _ Placed _ _ (c .before .enum-told .given .1) (λ w. c .place-fault .ensures _ _ f (w .view) (w .judging) (w .ends) l) h
@@ -68,23 +32,6 @@ returns-6 c = λ f h l. by-rule _ _ _ _ _ f _ (Sized _) _ _ (c .before .before .
 
 pub fault-of-spec : {M : Type 1} → statement M
 fault-of-spec =
-    tie.close
-    (tie.spec
-    enum-told
-    place-fault-requires
-    enum-told-2
-    declared-fault-requires
-    enum-told-3
-    derived-fault-requires
-    enum-told-4
-    itself-fault-requires
-    enum-told-5
-    deep-fault-requires
-    enum-known-rule
-    size-fault-requires
-    returns
-    returns-2
-    returns-3
-    returns-4
-    returns-5
-    returns-6)
+    tie.close (tie.spec (search needs) (search needs) (search needs) (search needs) (search needs) (search needs)
+    (search needs) (search needs) (search needs) (search needs) (search needs) (search needs) returns returns-2
+    returns-3 returns-4 returns-5 returns-6)

@@ -1,7 +1,7 @@
 -- `judging::first_fault` meets its contract. Assumes nothing.
 use Prim.Native.Nat.{_-_, _≤_, _<_}
 use native.Mathlib.Omega.{arith}
-use mathlib.Core.Path.{_≡_, refl, sym, ap, _∙_}
+use mathlib.Core.Path.{_≡_, refl, _∙_}
 use lib.ListN.{length}
 use Rattle.contents.specs.File.{File}
 use Rattle.judging.specs.Order.{Ready}
@@ -16,24 +16,6 @@ Inv-loop head total table rows idat rule n k₀ k = (k ≤ n) × ((f : File) →
 abbrev μ-loop : tie.MeasureT-loop
 μ-loop head total table rows idat rule n k₀ k = n - k
 
-item-count-requires : tie.Need-item-count-requires Inv-loop μ-loop
-item-count-requires c κs = search needs
-
-loop-holds : tie.Need-loop-holds Inv-loop μ-loop
-loop-holds c = (omega arith, λ f w. refl)
-
-row-at-requires : tie.Need-row-at-requires Inv-loop μ-loop
-row-at-requires c κs = search needs
-
-fault-of-requires : tie.Need-fault-of-requires Inv-loop μ-loop
-fault-of-requires c κs = search needs
-
-id-of-requires : tie.Need-id-of-requires Inv-loop μ-loop
-id-of-requires c κs = search needs
-
-cast-t13 : tie.Need-cast-t13 Inv-loop μ-loop
-cast-t13 c = search needs
-
 returns : tie.Need-returns Inv-loop μ-loop
 returns c =
     λ f w.
@@ -43,12 +25,6 @@ returns c =
     let i = c .before .before .before .before .row-at .ensures in
     let l : c .before .before .before .before .row-at .result .0 < length (f .items) = omega arith in
     order-off _ _ _ f _ _ _ h (c .before .before .before .before .before .before .loop .inv .1 f w) i (c .before .before .before .fault-of .ensures f w l) (c .before .before .if1 .taken) _ (c .before .id-of .ensures (omega (arith, v .bounded .few-items)) ∙ v .id _ l)
-
-add-k : tie.Need-add-k Inv-loop μ-loop
-add-k c = omega arith
-
-loop-less : tie.Need-loop-less Inv-loop μ-loop
-loop-less c = omega arith
 
 loop-again : tie.Need-loop-again Inv-loop μ-loop
 loop-again c = (
@@ -71,18 +47,5 @@ returns-2 c =
 
 pub first-fault-spec : {M : Type 1} → statement M
 first-fault-spec =
-    tie.close
-    (tie.spec
-    Inv-loop
-    μ-loop
-    item-count-requires
-    loop-holds
-    row-at-requires
-    fault-of-requires
-    id-of-requires
-    cast-t13
-    returns
-    add-k
-    loop-less
-    loop-again
-    returns-2)
+    tie.close (tie.spec Inv-loop μ-loop (search needs) (λ c. (omega arith, λ f w. refl)) (search needs) (search needs)
+    (search needs) (search needs) returns (λ c. omega arith) (λ c. omega arith) loop-again returns-2)

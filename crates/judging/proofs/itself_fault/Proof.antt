@@ -7,20 +7,11 @@ use borrow.Author.Needs.{needs}
 use Rattle.judging.proofs.itself_fault.Statement.{statement}
 use Rattle.judging.proofs.itself_fault.Tie as tie
 
-record-word-requires : tie.Need-record-word-requires
-record-word-requires c κs = search needs
-
 returns : tie.Need-returns
 returns c = λ total head f d h. itself-shallow total head f d _ h _ (c .before .record-word .ensures (omega (arith, d .view .bounded .few-items))) (c .if1 .taken)
 
-item-count-requires : tie.Need-item-count-requires
-item-count-requires c κs = search needs
-
 returns-2 : tie.Need-returns-2
 returns-2 c = λ total head f d h. absurd (omega (arith, d .view .items, c .before .item-count .ensures, d .view .bounded .few-items))
-
-derives-itself-requires : tie.Need-derives-itself-requires
-derives-itself-requires c κs = omega arith
 
 returns-3 : tie.Need-returns-3
 returns-3 c = λ total head f d h. itself-told total head f d _ h true (sym (c .if3 .taken) ∙ c .before .derives-itself .ensures _ (scene-long total head f ∙ sym (c .before .before .before .item-count .ensures ∙ d .view .items)) (inputs-are total head f _ _ _ (d .view) (d .resolved) (d .fed)) (omega (arith, c .before .before .before .item-count .ensures, d .view .items)))
@@ -30,12 +21,4 @@ returns-4 c = λ total head f d h. itself-told total head f d _ h false (sym (c 
 
 pub itself-fault-spec : {M : Type 1} → statement M
 itself-fault-spec =
-    tie.close
-    (tie.spec
-    record-word-requires
-    returns
-    item-count-requires
-    returns-2
-    derives-itself-requires
-    returns-3
-    returns-4)
+    tie.close (tie.spec (λ c κs. search needs) returns (search needs) returns-2 (λ c κs. omega arith) returns-3 returns-4)

@@ -1,23 +1,11 @@
 -- `judging::judge` meets its contract. Assumes nothing.
 use native.Mathlib.Omega.{arith}
-use mathlib.Core.Path.{refl, sym, ap, _∙_}
+use mathlib.Core.Path.{refl, sym, _∙_}
 use borrow.Author.Tests.{not-true, not-false}
 use Rattle.judging.proofs.JudgeLaws.{refused-by, read-here, early, primary-off, items-off, last-kept, last-by}
 use borrow.Author.Needs.{needs}
 use Rattle.judging.proofs.judge.Statement.{statement}
 use Rattle.judging.proofs.judge.Tie as tie
-
-good-primary-requires : tie.Need-good-primary-requires
-good-primary-requires c κs = search needs
-
-word-requires : tie.Need-word-requires
-word-requires c κs = search needs
-
-cast-t17 : tie.Need-cast-t17
-cast-t17 c = search needs
-
-same-length : tie.Need-same-length
-same-length c = search needs
 
 returns : tie.Need-returns
 returns c = (
@@ -25,92 +13,34 @@ returns c = (
   refl,
 )
 
-resolve-requires : tie.Need-resolve-requires
-resolve-requires c κs = search needs
-
-slice-aggregate-judge-items : tie.Need-slice-aggregate-judge-items
-slice-aggregate-judge-items c = search needs
-
-judge-items-requires : tie.Need-judge-items-requires
-judge-items-requires c κs = search needs
-
-enum-known-items : tie.Need-enum-known-items
-enum-known-items c = search needs
-
-enum-told : tie.Need-enum-told
-enum-told c = search needs
-
-item-count-requires : tie.Need-item-count-requires
-item-count-requires c κs = search needs
-
-slice-aggregate-depths-of : tie.Need-slice-aggregate-depths-of
-slice-aggregate-depths-of c = search needs
-
 depths-of-requires : tie.Need-depths-of-requires
-depths-of-requires c κs = let v = read-here _ _ _ _ _ (c .before .before .before .before .before .before .before .before .before .before .before .before .before .before .before .before .pre .0) (c .before .before .before .before .before .before .before .before .before .before .before .before .before .before .before .before .pre .2) in omega (arith, c .before .before .item-count .ensures, v .items, v .bounded .few-items)
-
-slice-aggregate-fill-sizes : tie.Need-slice-aggregate-fill-sizes
-slice-aggregate-fill-sizes c = search needs
-
-fill-sizes-requires : tie.Need-fill-sizes-requires
-fill-sizes-requires c κs = search needs
-
-slice-aggregate-judge-pictures : tie.Need-slice-aggregate-judge-pictures
-slice-aggregate-judge-pictures c = search needs
-
-judge-pictures-requires : tie.Need-judge-pictures-requires
-judge-pictures-requires c κs = search needs
-
-same-length-2 : tie.Need-same-length-2
-same-length-2 c = search needs
+depths-of-requires c κs = let v = read-here _ _ _ _ _ (c .before .before .before .before .before .before .before .before .before .before .before .before .before .before .before .before .before .before .pre .0) (c .before .before .before .before .before .before .before .before .before .before .before .before .before .before .before .before .before .before .pre .2) in omega (arith, c .before .before .item-count .ensures, v .items, v .bounded .few-items)
 
 returns-2 : tie.Need-returns-2
 returns-2 c = (
   λ f x w.
       let v = read-here _ _ x _ _ f w in
-      refused-by _ _ f x _ _ (items-off _ _ x _ _ f w (sym (not-false _ (c .before .before .before .before .before .before .before .before .if1 .left)) ∙ c .before .before .before .before .before .before .before .before .before .good-primary .ensures _ _ f v) _
-      (sym (c .before .before .before .judge-items .ensures f (early _ _ x _ _ f w _ (c .before .before .before .before .before .before .resolve .ensures _ _ f v))) ∙ c .before .items .given .1)),
+      refused-by _ _ f x _ _ (items-off _ _ x _ _ f w (sym (not-false _ (c .before .before .before .before .before .before .before .before .before .before .if1 .left)) ∙ c .before .before .before .before .before .before .before .before .before .before .before .good-primary .ensures _ _ f v) _
+      (sym (c .before .before .before .judge-items .ensures f (early _ _ x _ _ f w _ (c .before .before .before .before .before .before .before .resolve .ensures _ _ f v))) ∙ c .before .items .given .1)),
   refl,
 )
-
-same-length-3 : tie.Need-same-length-3
-same-length-3 c = search needs
 
 returns-3 : tie.Need-returns-3
 returns-3 c = (
   λ f x w.
       let v = read-here _ _ x _ _ f w in
-      last-by _ _ x (c .before .before .before .before .before .before .before .before .before .before .before .before .before .before .before .before .before .before .before .before .before .before .before .before .before .args .total) _ f w (omega (arith, c .before .before .before .before .before .before .before .before .before .before .before .before .before .before .before .before .before .before .before .before .before .before .before .before .before .fits .total)) _ _ (c .before .before .before .before .before .before .before .before .depths-of .result) _ (c .judge-pictures .result) (c .before .before .before .before .before .before .before .before .before .before .before .item-count .ensures) (c .before .before .before .before .before .before .before .before .before .before .before .before .before .before .before .before .before .before .resolve .ensures _ _ f v) (sym (c .before .before .before .before .before .before .before .before .before .before .before .before .before .before .before .judge-items .ensures f (early _ _ x _ _ f w _ (c .before .before .before .before .before .before .before .before .before .before .before .before .before .before .before .before .before .before .resolve .ensures _ _ f v))) ∙ c .before .before .before .before .before .before .before .before .before .before .before .before .before .enum-told .given .1) (c .before .before .before .before .before .before .before .before .depths-of .ensures) (c .before .before .before .before .before .fill-sizes .ensures)
-      (sym (not-false _ (c .before .before .before .before .before .before .before .before .before .before .before .before .before .before .before .before .before .before .before .before .if1 .left)) ∙ c .before .before .before .before .before .before .before .before .before .before .before .before .before .before .before .before .before .before .before .before .before .good-primary .ensures _ _ f v) (c .judge-pictures .ensures),
-  let f = c .before .before .before .before .before .before .before .before .before .before .before .before .before .before .before .before .before .before .before .before .before .before .before .before .before .pre .0 in
-      let x = c .before .before .before .before .before .before .before .before .before .before .before .before .before .before .before .before .before .before .before .before .before .before .before .before .before .pre .1 in
-      let w = c .before .before .before .before .before .before .before .before .before .before .before .before .before .before .before .before .before .before .before .before .before .before .before .before .before .pre .2 in
+      last-by _ _ x (c .before .before .before .before .before .before .before .before .before .before .before .before .before .before .before .before .before .before .before .before .before .before .before .before .before .before .before .args .total) _ f w (omega (arith, c .before .before .before .before .before .before .before .before .before .before .before .before .before .before .before .before .before .before .before .before .before .before .before .before .before .before .before .fits .total)) _ _ (c .before .before .before .before .before .before .before .before .depths-of .result) _ (c .judge-pictures .result) (c .before .before .before .before .before .before .before .before .before .before .before .item-count .ensures) (c .before .before .before .before .before .before .before .before .before .before .before .before .before .before .before .before .before .before .before .resolve .ensures _ _ f v) (sym (c .before .before .before .before .before .before .before .before .before .before .before .before .before .before .before .judge-items .ensures f (early _ _ x _ _ f w _ (c .before .before .before .before .before .before .before .before .before .before .before .before .before .before .before .before .before .before .before .resolve .ensures _ _ f v))) ∙ c .before .before .before .before .before .before .before .before .before .before .before .before .before .enum-told .given .1) (c .before .before .before .before .before .before .before .before .depths-of .ensures) (c .before .before .before .before .before .fill-sizes .ensures)
+      (sym (not-false _ (c .before .before .before .before .before .before .before .before .before .before .before .before .before .before .before .before .before .before .before .before .before .before .if1 .left)) ∙ c .before .before .before .before .before .before .before .before .before .before .before .before .before .before .before .before .before .before .before .before .before .before .before .good-primary .ensures _ _ f v) (c .judge-pictures .ensures),
+  let f = c .before .before .before .before .before .before .before .before .before .before .before .before .before .before .before .before .before .before .before .before .before .before .before .before .before .before .before .pre .0 in
+      let x = c .before .before .before .before .before .before .before .before .before .before .before .before .before .before .before .before .before .before .before .before .before .before .before .before .before .before .before .pre .1 in
+      let w = c .before .before .before .before .before .before .before .before .before .before .before .before .before .before .before .before .before .before .before .before .before .before .before .before .before .before .before .pre .2 in
       let v = read-here _ _ x _ _ f w in
-      last-kept _ _ x (c .before .before .before .before .before .before .before .before .before .before .before .before .before .before .before .before .before .before .before .before .before .before .before .before .before .args .total) _ f w (omega (arith, c .before .before .before .before .before .before .before .before .before .before .before .before .before .before .before .before .before .before .before .before .before .before .before .before .before .fits .total)) _ _ (c .before .before .before .before .before .before .before .before .depths-of .result) _ (c .judge-pictures .result) (c .before .before .before .before .before .before .before .before .before .before .before .item-count .ensures) (c .before .before .before .before .before .before .before .before .before .before .before .before .before .before .before .before .before .before .resolve .ensures _ _ f v) (sym (c .before .before .before .before .before .before .before .before .before .before .before .before .before .before .before .judge-items .ensures f (early _ _ x _ _ f w _ (c .before .before .before .before .before .before .before .before .before .before .before .before .before .before .before .before .before .before .resolve .ensures _ _ f v))) ∙ c .before .before .before .before .before .before .before .before .before .before .before .before .before .enum-told .given .1) (c .before .before .before .before .before .before .before .before .depths-of .ensures) (c .before .before .before .before .before .fill-sizes .ensures),
+      last-kept _ _ x (c .before .before .before .before .before .before .before .before .before .before .before .before .before .before .before .before .before .before .before .before .before .before .before .before .before .before .before .args .total) _ f w (omega (arith, c .before .before .before .before .before .before .before .before .before .before .before .before .before .before .before .before .before .before .before .before .before .before .before .before .before .before .before .fits .total)) _ _ (c .before .before .before .before .before .before .before .before .depths-of .result) _ (c .judge-pictures .result) (c .before .before .before .before .before .before .before .before .before .before .before .item-count .ensures) (c .before .before .before .before .before .before .before .before .before .before .before .before .before .before .before .before .before .before .before .resolve .ensures _ _ f v) (sym (c .before .before .before .before .before .before .before .before .before .before .before .before .before .before .before .judge-items .ensures f (early _ _ x _ _ f w _ (c .before .before .before .before .before .before .before .before .before .before .before .before .before .before .before .before .before .before .before .resolve .ensures _ _ f v))) ∙ c .before .before .before .before .before .before .before .before .before .before .before .before .before .enum-told .given .1) (c .before .before .before .before .before .before .before .before .depths-of .ensures) (c .before .before .before .before .before .fill-sizes .ensures),
 )
 
 pub judge-spec : {M : Type 1} → statement M
 judge-spec =
-    tie.close
-    (tie.spec
-    good-primary-requires
-    word-requires
-    cast-t17
-    same-length
-    returns
-    resolve-requires
-    slice-aggregate-judge-items
-    judge-items-requires
-    enum-known-items
-    enum-told
-    item-count-requires
-    slice-aggregate-depths-of
-    depths-of-requires
-    slice-aggregate-fill-sizes
-    fill-sizes-requires
-    slice-aggregate-judge-pictures
-    judge-pictures-requires
-    same-length-2
-    returns-2
-    same-length-3
-    returns-3)
+    tie.close (tie.spec (λ c κs. search needs) (λ c κs. search needs) (search needs) (search needs) returns
+    (search needs) (λ c κs. search needs) (search needs) (λ c κs. search needs) (search needs) (search needs)
+    (λ c κs. search needs) (search needs) depths-of-requires (search needs) (λ c κs. search needs) (search needs)
+    (λ c κs. search needs) (search needs) returns-2 (search needs) returns-3)

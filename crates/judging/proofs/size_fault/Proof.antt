@@ -9,23 +9,11 @@ use borrow.Author.Needs.{needs}
 use Rattle.judging.proofs.size_fault.Statement.{statement}
 use Rattle.judging.proofs.size_fault.Tie as tie
 
-record-word-requires : tie.Need-record-word-requires
-record-word-requires c κs = search needs
-
 returns : tie.Need-returns
 returns c = λ total f d h. size-other total _ f d _ h _ _ (c .before .record-word .ensures (omega (arith, d .view .bounded .few-items))) (c .if1 .taken)
 
-type-of-requires : tie.Need-type-of-requires
-type-of-requires c κs = search needs
-
-is-image-requires : tie.Need-is-image-requires
-is-image-requires c κs = search needs
-
 returns-2 : tie.Need-returns-2
 returns-2 c = λ total f d h. size-opaque total _ f d _ h _ (sym (not-true _ (c .if2 .taken)) ∙ c .before .is-image .ensures ∙ ap image (c .before .before .type-of .ensures (omega (arith, d .view .bounded .few-items)) ∙ d .view .type _ h))
-
-good-sizes-requires : tie.Need-good-sizes-requires
-good-sizes-requires c κs = search needs
 
 returns-3 : tie.Need-returns-3
 returns-3 c = λ total f d h. size-told total _ f d _ h _ _ (c .before .before .before .before .before .before .record-word .ensures (omega (arith, d .view .bounded .few-items))) (c .before .before .before .before .before .if1 .left) (sym (not-false _ (c .before .before .if2 .left)) ∙ c .before .before .before .is-image .ensures ∙ ap image (c .before .before .before .before .type-of .ensures (omega (arith, d .view .bounded .few-items)) ∙ d .view .type _ h)) true (sym (c .if3 .taken) ∙ c .before .good-sizes .ensures total f d h (sym (sym (not-false _ (c .before .before .if2 .left)) ∙ c .before .before .before .is-image .ensures ∙ ap image (c .before .before .before .before .type-of .ensures (omega (arith, d .view .bounded .few-items)) ∙ d .view .type _ h))))
@@ -35,13 +23,5 @@ returns-4 c = λ total f d h. size-told total _ f d _ h _ _ (c .before .before .
 
 pub size-fault-spec : {M : Type 1} → statement M
 size-fault-spec =
-    tie.close
-    (tie.spec
-    record-word-requires
-    returns
-    type-of-requires
-    is-image-requires
-    returns-2
-    good-sizes-requires
-    returns-3
+    tie.close (tie.spec (λ c κs. search needs) returns (search needs) (search needs) returns-2 (search needs) returns-3
     returns-4)

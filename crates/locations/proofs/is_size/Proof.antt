@@ -3,14 +3,7 @@ use borrow.Author.Tests.{ne-eqb}
 use Rattle.locations.proofs.is_size.Statement.{statement}
 use Rattle.locations.proofs.is_size.Tie as tie
 
-returns : tie.Need-returns
-returns c = rw (c .if1 .taken)
-
-returns-2 : tie.Need-returns-2
-returns-2 c = rw (c .if2 .taken)
-
-returns-3 : tie.Need-returns-3
-returns-3 c = rw (ne-eqb _ _ (c .before .if1 .left), ne-eqb _ _ (c .if2 .left))
-
 pub is-size-spec : {M : Type 1} → statement M
-is-size-spec = tie.close (tie.spec returns returns-2 returns-3)
+is-size-spec =
+    tie.close (tie.spec (λ c. rw (c .if1 .taken)) (λ c. rw (c .if2 .taken))
+    (λ c. rw (ne-eqb _ _ (c .before .if1 .left), ne-eqb _ _ (c .if2 .left))))

@@ -26,9 +26,6 @@ put-entry-requires c κs =
     let e = h .kept .same-length in
     (h .room, c .before .before .before .before .before .pre .1, h .few, c .before .before .before .before .before .pre .2, rw e (c .before .before .before .before .before .pre .3))
 
-enum-known-t : tie.Need-enum-known-t Inv-loop μ-loop
-enum-known-t c = search needs
-
 same-length : tie.Need-same-length Inv-loop μ-loop
 same-length c =
     c .before .before .before .before .before .put-entry .kept .1 .1 .1 .1 .0 ∙ c .before .before .before .before .before .before .before .before .loop .inv .kept .same-length
@@ -44,9 +41,6 @@ returns c =
     let w = so-refused (a .s .now) (a .from) (a .count) (a .w) (a .place) (a .n) (a .idat) (a .table .now)
     (l .table) u (l .at) (l .used) (l .i) (l .inv) (c .before .before .before .before .before .before .before .loop-test .taken) _ z in
     (sym (ap toldLocations (w .0)), w .1)
-
-enum-known-t-2 : tie.Need-enum-known-t-2 Inv-loop μ-loop
-enum-known-t-2 c = search needs
 
 add-used : tie.Need-add-used Inv-loop μ-loop
 add-used c =
@@ -65,12 +59,6 @@ add-hope c =
     let u = e .last .1 .1 .1 .1 .0 in
     let z = subst (PutAre (l .table) u (a .n) (a .w) (l .used) (a .place) (a .s .now) (l .at) (a .idat)) (c .before .t2 .given .1) (e .ensures) in
     omega arith
-
-add-i : tie.Need-add-i Inv-loop μ-loop
-add-i c = search needs
-
-loop-less : tie.Need-loop-less Inv-loop μ-loop
-loop-less c = search needs
 
 loop-again : tie.Need-loop-again Inv-loop μ-loop
 loop-again c =
@@ -109,22 +97,5 @@ returns-3 c =
 
 pub put-entries-spec : {M : Type 1} → statement M
 put-entries-spec =
-    tie.close
-    (tie.spec
-    Inv-loop
-    μ-loop
-    loop-holds
-    put-entry-requires
-    enum-known-t
-    same-length
-    returns
-    enum-known-t-2
-    add-used
-    add-hope
-    add-i
-    loop-less
-    loop-again
-    same-length-2
-    returns-2
-    same-length-3
-    returns-3)
+    tie.close (tie.spec Inv-loop μ-loop loop-holds put-entry-requires (search needs) same-length returns (search needs)
+    add-used add-hope (search needs) (search needs) loop-again same-length-2 returns-2 same-length-3 returns-3)

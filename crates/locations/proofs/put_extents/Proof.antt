@@ -59,15 +59,6 @@ be-sized-requires-2 c κs =
     let h = one-fits (a .at) (a .k) (l .j) (each (a .w)) (l .a) (length (a .s .now)) (c .before .before .before .before .before .pre .0) (c .before .loop-test .taken) (l .inv .2) in
     (omega arith, c .before .before .before .before .before .pre .1 .length)
 
-add-put-extent : tie.Need-add-put-extent Inv-loop μ-loop
-add-put-extent c = search needs
-
-capped-sum-requires : tie.Need-capped-sum-requires Inv-loop μ-loop
-capped-sum-requires c κs = search needs
-
-put-extent-requires : tie.Need-put-extent-requires Inv-loop μ-loop
-put-extent-requires c κs = search needs
-
 add-a : tie.Need-add-a Inv-loop μ-loop
 add-a c =
     let a = c .before .before .before .before .before .before .before .before .before .before .before .args in
@@ -88,12 +79,6 @@ add-a-3 c =
     let l = c .before .before .before .before .before .before .before .before .loop in
     let h = one-fits (a .at) (a .k) (l .j) (each (a .w)) (l .a) (length (a .s .now)) (c .before .before .before .before .before .before .before .before .before .before .before .pre .0) (c .before .before .before .before .before .before .before .loop-test .taken) (l .inv .2) in
     omega arith
-
-add-j : tie.Need-add-j Inv-loop μ-loop
-add-j c = search needs
-
-loop-less : tie.Need-loop-less Inv-loop μ-loop
-loop-less c = search needs
 
 loop-again : tie.Need-loop-again Inv-loop μ-loop
 loop-again c =
@@ -117,24 +102,6 @@ returns c = let a = c .before .before .before .before .args in
 
 pub put-extents-spec : {M : Type 1} → statement M
 put-extents-spec =
-    tie.close
-    (tie.spec
-    Inv-loop
-    μ-loop
-    loop-holds
-    add-be-sized
-    be-sized-requires
-    add-be-sized-2
-    add-be-sized-3
-    be-sized-requires-2
-    add-put-extent
-    capped-sum-requires
-    put-extent-requires
-    add-a
-    add-a-2
-    add-a-3
-    add-j
-    loop-less
-    loop-again
-    same-length
-    returns)
+    tie.close (tie.spec Inv-loop μ-loop loop-holds add-be-sized be-sized-requires add-be-sized-2 add-be-sized-3
+    be-sized-requires-2 (search needs) (search needs) (λ c κs. search needs) add-a add-a-2 add-a-3 (search needs)
+    (search needs) loop-again same-length returns)

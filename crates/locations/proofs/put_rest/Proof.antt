@@ -19,27 +19,6 @@ mul-size c =
     let h = sizes-most (a .x .extents) (each (a .w)) (omega arith) (each-most (a .w) (c .before .before .pre .1)) in
     omega arith
 
-sub-if1 : tie.Need-sub-if1
-sub-if1 c = search needs
-
-returns : tie.Need-returns
-returns c = search needs
-
-start-of-requires : tie.Need-start-of-requires
-start-of-requires c κs = search needs
-
-put-extents-requires : tie.Need-put-extents-requires
-put-extents-requires c κs = search needs
-
-put-place-requires : tie.Need-put-place-requires
-put-place-requires c κs = search needs
-
-add-t16 : tie.Need-add-t16
-add-t16 c = search needs
-
-same-length : tie.Need-same-length
-same-length c = search needs
-
 returns-2 : tie.Need-returns-2
 returns-2 c =
     let a = c .before .before .before .before .before .before .before .before .before .before .before .before .args in
@@ -48,16 +27,5 @@ returns-2 c =
 
 pub put-rest-spec : {M : Type 1} → statement M
 put-rest-spec =
-    tie.close
-    (tie.spec
-    add-size
-    add-size-2
-    mul-size
-    sub-if1
-    returns
-    start-of-requires
-    put-extents-requires
-    put-place-requires
-    add-t16
-    same-length
-    returns-2)
+    tie.close (tie.spec add-size add-size-2 mul-size (search needs) (λ c. search needs) (search needs) (λ c κs. search needs)
+    (λ c κs. search needs) (search needs) (search needs) returns-2)

@@ -4,22 +4,13 @@ use borrow.Author.Needs.{needs}
 use Rattle.locations.proofs.read_count.Statement.{statement}
 use Rattle.locations.proofs.read_count.Tie as tie
 
-sub-if1 : tie.Need-sub-if1
-sub-if1 c = search needs
-
 returns : tie.Need-returns
 returns c = let a = c .before .before .args in count-short (a .w) (a .place) (a .s .now) (c .before .before .pre .0) (c .if1 .taken)
-
-be-id-requires : tie.Need-be-id-requires
-be-id-requires c κs = search needs
 
 returns-2 : tie.Need-returns-2
 returns-2 c =
     let a = c .before .before .before .before .args in
     count-many (a .w) (a .place) (a .s .now) (c .before .before .before .before .pre .0) (c .before .before .if1 .left) _ (c .before .be-id .ensures) (c .if2 .taken)
-
-cast-t6 : tie.Need-cast-t6
-cast-t6 c = search needs
 
 returns-3 : tie.Need-returns-3
 returns-3 c =
@@ -27,4 +18,4 @@ returns-3 c =
     count-here (a .w) (a .place) (a .s .now) (c .before .before .before .before .pre .0) (c .before .before .if1 .left) _ (c .before .be-id .ensures) (c .before .before .before .before .pre .1) (c .if2 .left)
 
 pub read-count-spec : {M : Type 1} → statement M
-read-count-spec = tie.close (tie.spec sub-if1 returns be-id-requires returns-2 cast-t6 returns-3)
+read-count-spec = tie.close (tie.spec (search needs) returns (λ c κs. search needs) returns-2 (search needs) returns-3)

@@ -7,37 +7,10 @@ use borrow.Author.Needs.{needs}
 use Rattle.locations.proofs.read_entry.Statement.{statement}
 use Rattle.locations.proofs.read_entry.Tie as tie
 
-sub-if1 : tie.Need-sub-if1
-sub-if1 c = search needs
-
 returns : tie.Need-returns
 returns c =
     let a = c .before .before .before .args in
     entry-short (a .table .now) (a .n) (a .w) (a .used) (a .place) (a .s .now) (a .at) (c .before .before .before .pre .0) (c .if1 .taken)
-
-be-id-requires : tie.Need-be-id-requires
-be-id-requires c κs = search needs
-
-row-for-requires : tie.Need-row-for-requires
-row-for-requires c κs = search needs
-
-enum-known-r : tie.Need-enum-known-r
-enum-known-r c = search needs
-
-enum-known-r-2 : tie.Need-enum-known-r-2
-enum-known-r-2 c = search needs
-
-add-read-rest : tie.Need-add-read-rest
-add-read-rest c = search needs
-
-read-rest-requires : tie.Need-read-rest-requires
-read-rest-requires c κs = search needs
-
-enum-known-x : tie.Need-enum-known-x
-enum-known-x c = search needs
-
-enum-known-x-2 : tie.Need-enum-known-x-2
-enum-known-x-2 c = search needs
 
 returns-2 : tie.Need-returns-2
 returns-2 c =
@@ -61,18 +34,5 @@ returns-4 c =
 
 pub read-entry-spec : {M : Type 1} → statement M
 read-entry-spec =
-    tie.close
-    (tie.spec
-    sub-if1
-    returns
-    be-id-requires
-    row-for-requires
-    enum-known-r
-    enum-known-r-2
-    add-read-rest
-    read-rest-requires
-    enum-known-x
-    enum-known-x-2
-    returns-2
-    returns-3
-    returns-4)
+    tie.close (tie.spec (search needs) returns (λ c κs. search needs) (λ c κs. search needs) (search needs) (search needs)
+    (search needs) (λ c κs. search needs) (search needs) (search needs) returns-2 returns-3 returns-4)

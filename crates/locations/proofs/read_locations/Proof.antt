@@ -13,25 +13,10 @@ use borrow.Author.Needs.{needs}
 use Rattle.locations.proofs.read_locations.Statement.{statement}
 use Rattle.locations.proofs.read_locations.Tie as tie
 
-read-full-requires : tie.Need-read-full-requires
-read-full-requires c κs = search needs
-
-enum-known-h : tie.Need-enum-known-h
-enum-known-h c = search needs
-
-enum-known-h-2 : tie.Need-enum-known-h-2
-enum-known-h-2 c = search needs
-
 read-sizes-requires : tie.Need-read-sizes-requires
 read-sizes-requires c κs =
     let a = c .before .before .before .before .before .before .args in
     (full-here (upto 2) (a .place) (a .s .now) _ _ (sym (c .before .before .before .read-full .ensures) ∙ c .before .h2 .given .1)) .room
-
-enum-known-z : tie.Need-enum-known-z
-enum-known-z c = search needs
-
-enum-known-z-2 : tie.Need-enum-known-z-2
-enum-known-z-2 c = search needs
 
 add-put-entries : tie.Need-add-put-entries
 add-put-entries c =
@@ -65,9 +50,6 @@ returns-2 c =
     let e = iloc-sizes-gone (idsIn (a .table .now) (a .n)) (a .place) (a .s .now) _ _ f _ _ z in
     (sym (ap toldLocations e), left-gone (a .s .now) (a .place) (a .n) (a .idat) (a .table .now) _ _ e)
 
-same-length : tie.Need-same-length
-same-length c = search needs
-
 returns-3 : tie.Need-returns-3
 returns-3 c =
     let a = c .before .before .before .before .before .before .before .before .before .before .before .before .before .before .args in
@@ -80,17 +62,5 @@ returns-3 c =
 
 pub read-locations-spec : {M : Type 1} → statement M
 read-locations-spec =
-    tie.close
-    (tie.spec
-    read-full-requires
-    enum-known-h
-    enum-known-h-2
-    read-sizes-requires
-    enum-known-z
-    enum-known-z-2
-    add-put-entries
-    put-entries-requires
-    returns
-    returns-2
-    same-length
-    returns-3)
+    tie.close (tie.spec (search needs) (search needs) (search needs) read-sizes-requires (search needs) (search needs)
+    add-put-entries put-entries-requires returns returns-2 (search needs) returns-3)

@@ -8,32 +8,11 @@ use Rattle.locations.proofs.read_sizes.Tie as tie
 returns : tie.Need-returns
 returns c = let a = c .before .before .args in sizes-short (a .version) (a .place) (a .s .now) (c .before .before .pre) (c .if1 .taken)
 
-be8-requires : tie.Need-be8-requires
-be8-requires c κs = search needs
-
-cast-a : tie.Need-cast-a
-cast-a c = search needs
-
-are-sizes-requires : tie.Need-are-sizes-requires
-are-sizes-requires c κs = search needs
-
 returns-2 : tie.Need-returns-2
 returns-2 c =
     let a = c .before .before .before .before .before .before .args in
     sizes-cut
     (a .version) (a .place) (a .s .now) (c .before .before .before .before .before .before .pre) _ (c .before .before .before .be8 .ensures) (c .before .before .before .before .if1 .left) (sym (c .before .before .are-sizes .ensures) ∙ c .before .if2 .taken) (c .if3 .taken)
-
-be8-requires-2 : tie.Need-be8-requires-2
-be8-requires-2 c κs = search needs
-
-cast-b : tie.Need-cast-b
-cast-b c = search needs
-
-widths-of-requires : tie.Need-widths-of-requires
-widths-of-requires c κs = search needs
-
-are-sizes-requires-2 : tie.Need-are-sizes-requires-2
-are-sizes-requires-2 c κs = search needs
 
 read-count-requires : tie.Need-read-count-requires
 read-count-requires c κs =
@@ -65,18 +44,5 @@ returns-5 c =
 
 pub read-sizes-spec : {M : Type 1} → statement M
 read-sizes-spec =
-    tie.close
-    (tie.spec
-    returns
-    be8-requires
-    cast-a
-    are-sizes-requires
-    returns-2
-    be8-requires-2
-    cast-b
-    widths-of-requires
-    are-sizes-requires-2
-    read-count-requires
-    returns-3
-    returns-4
-    returns-5)
+    tie.close (tie.spec returns (λ c κs. search needs) (search needs) (search needs) returns-2 (λ c κs. search needs)
+    (search needs) (search needs) (search needs) read-count-requires returns-3 returns-4 returns-5)

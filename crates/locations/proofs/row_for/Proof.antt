@@ -9,20 +9,11 @@ use borrow.Author.Needs.{needs}
 use Rattle.locations.proofs.row_for.Statement.{statement}
 use Rattle.locations.proofs.row_for.Tie as tie
 
-row-of-requires : tie.Need-row-of-requires
-row-of-requires c κs = search needs
-
-enum-known-f : tie.Need-enum-known-f
-enum-known-f c = search needs
-
 item-requires : tie.Need-item-requires
 item-requires c κs =
     let a = c .before .before .before .before .before .args in
     let g = subst (FoundIs (a .table .now) (a .n) (a .id .0)) (c .before .f .given .1) (c .before .before .before .row-of .ensures) in
     omega arith
-
-add-if1 : tie.Need-add-if1
-add-if1 c = search needs
 
 mul-if1 : tie.Need-mul-if1
 mul-if1 c =
@@ -42,9 +33,6 @@ returns c =
     let g = subst (FoundIs (a .table .now) (a .n) (a .id .0)) (c .before .before .before .before .f .given .1) (c .before .before .before .before .before .before .row-of .ensures) in
     row-twice (a .table .now) (a .n) (a .id .0) (a .place) _ g (ap (λ (i : ℕ). getD (a .table .now) (i + 11) 0) (sym (c .before .before .item .ensures)) ∙ c .if1 .taken)
 
-enum-told : tie.Need-enum-told
-enum-told c = search needs
-
 returns-2 : tie.Need-returns-2
 returns-2 c =
     let a = c .before .before .before .before .before .before .before .before .args in
@@ -58,15 +46,5 @@ returns-3 c =
 
 pub row-for-spec : {M : Type 1} → statement M
 row-for-spec =
-    tie.close
-    (tie.spec
-    row-of-requires
-    enum-known-f
-    item-requires
-    add-if1
-    mul-if1
-    shared-slice-read-if1
-    returns
-    enum-told
-    returns-2
-    returns-3)
+    tie.close (tie.spec (λ c κs. search needs) (search needs) item-requires (search needs) mul-if1 shared-slice-read-if1
+    returns (search needs) returns-2 returns-3)

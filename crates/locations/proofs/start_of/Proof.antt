@@ -5,9 +5,6 @@ use borrow.Author.Needs.{needs}
 use Rattle.locations.proofs.start_of.Statement.{statement}
 use Rattle.locations.proofs.start_of.Tie as tie
 
-capped-sum-requires : tie.Need-capped-sum-requires
-capped-sum-requires c κs = search needs
-
 returns : tie.Need-returns
 returns c = let a = c .before .before .args in start-idat (a .method) (a .base) (a .idat) _ (c .before .if1 .taken) (c .capped-sum .ensures)
 
@@ -15,4 +12,4 @@ returns-2 : tie.Need-returns-2
 returns-2 c = let a = c .before .args in start-file (a .method) (a .base) (a .idat) (c .if1 .left) (omega arith)
 
 pub start-of-spec : {M : Type 1} → statement M
-start-of-spec = tie.close (tie.spec capped-sum-requires returns returns-2)
+start-of-spec = tie.close (tie.spec (search needs) returns returns-2)

@@ -4,15 +4,6 @@ use Rattle.needed.proofs.MarkedLaws.{chosen-coded, chosen-not}
 use Rattle.needed.proofs.is_source.Statement.{statement}
 use Rattle.needed.proofs.is_source.Tie as tie
 
-word-requires : tie.Need-word-requires
-word-requires c κs = search needs
-
-type-of-requires : tie.Need-type-of-requires
-type-of-requires c κs = search needs
-
-is-coded-requires : tie.Need-is-coded-requires
-is-coded-requires c κs = search needs
-
 returns : tie.Need-returns
 returns c =
     let a = c .before .before .before .before .before .before .args in
@@ -23,5 +14,4 @@ returns-2 : tie.Need-returns-2
 returns-2 c = let a = c .before .before .before .before .args in λ h. chosen-not (a .table .now) (a .marks .now) (a .row .0) (c .before .word .result) (c .before .word .ensures) (c .if1 .left)
 
 pub is-source-spec : {M : Type 1} → statement M
-is-source-spec =
-    tie.close (tie.spec word-requires type-of-requires is-coded-requires returns returns-2)
+is-source-spec = tie.close (tie.spec (search needs) (search needs) (search needs) returns returns-2)

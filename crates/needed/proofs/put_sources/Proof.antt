@@ -14,32 +14,8 @@ Inv-loop table marks n list₀ count₀ k₀ list count k = (k ≤ n) × Kept ta
 abbrev μ-loop : tie.MeasureT-loop
 μ-loop table marks n list₀ count₀ k₀ list count k = n - k
 
-loop-holds : tie.Need-loop-holds Inv-loop μ-loop
-loop-holds c = (omega arith, kept-none _ _ _)
-
-row-at-requires : tie.Need-row-at-requires Inv-loop μ-loop
-row-at-requires c κs = search needs
-
-is-source-requires : tie.Need-is-source-requires Inv-loop μ-loop
-is-source-requires c κs = search needs
-
-id-of-requires : tie.Need-id-of-requires Inv-loop μ-loop
-id-of-requires c κs = search needs
-
-mul-list : tie.Need-mul-list Inv-loop μ-loop
-mul-list c = search needs
-
-slice-write-list : tie.Need-slice-write-list Inv-loop μ-loop
-slice-write-list c = search needs
-
 add-count : tie.Need-add-count Inv-loop μ-loop
 add-count c = let a = c .before .before .before .before .before .before .before .before .before .args in let q = c .before .before .before .before .before .loop in omega (arith, q .inv .1 .count, marked-few (a .table .now) (a .marks .now) (q .k))
-
-add-k : tie.Need-add-k Inv-loop μ-loop
-add-k c = omega arith
-
-loop-less : tie.Need-loop-less Inv-loop μ-loop
-loop-less c = omega arith
 
 loop-again : tie.Need-loop-again Inv-loop μ-loop
 loop-again c =
@@ -73,19 +49,6 @@ returns c =
 
 pub put-sources-spec : {M : Type 1} → statement M
 put-sources-spec =
-    tie.close
-    (tie.spec
-    Inv-loop
-    μ-loop
-    loop-holds
-    row-at-requires
-    is-source-requires
-    id-of-requires
-    mul-list
-    slice-write-list
-    add-count
-    add-k
-    loop-less
-    loop-again
-    same-length
+    tie.close (tie.spec Inv-loop μ-loop (λ c. (omega arith, kept-none _ _ _)) (search needs) (search needs)
+    (search needs) (search needs) (search needs) add-count (λ c. omega arith) (λ c. omega arith) loop-again same-length
     returns)

@@ -4,31 +4,15 @@ use Rattle.placed.proofs.PlaceLaws.{method-unknown, reference-elsewhere
 use Rattle.placed.proofs.good_location.Statement.{statement}
 use Rattle.placed.proofs.good_location.Tie as tie
 
-record-word-requires : tie.Need-record-word-requires
-record-word-requires c κs = search needs
-
 returns : tie.Need-returns
 returns c = λ head pl f v w h. method-unknown v (c .before .before .before .args .row .0) h _ (c .before .record-word .ensures) (c .if1 .taken)
 
-record-word-requires-2 : tie.Need-record-word-requires-2
-record-word-requires-2 c κs = search needs
-
 returns-2 : tie.Need-returns-2
 returns-2 c = λ head pl f v w h. reference-elsewhere v (c .before .before .before .before .before .args .row .0) h _ (c .before .before .before .record-word .ensures) w (c .before .before .if1 .left) _ (c .before .record-word2 .ensures) (c .if2 .taken)
-
-has-lengths-requires : tie.Need-has-lengths-requires
-has-lengths-requires c κs = search needs
 
 returns-3 : tie.Need-returns-3
 returns-3 c = λ head pl f v w h. reference-here v (c .before .before .before .before .before .before .args .row .0) h _ (c .before .before .before .before .record-word .ensures) w (c .before .before .before .if1 .left) _ (c .before .before .record-word2 .ensures) (c .before .if2 .left) _ (c .has-lengths .ensures head pl f v h)
 
 pub good-location-spec : {M : Type 1} → statement M
 good-location-spec =
-    tie.close
-    (tie.spec
-    record-word-requires
-    returns
-    record-word-requires-2
-    returns-2
-    has-lengths-requires
-    returns-3)
+    tie.close (tie.spec (λ c κs. search needs) returns (λ c κs. search needs) returns-2 (search needs) returns-3)

@@ -5,27 +5,6 @@ use Rattle.placed.proofs.PrimaryLaws.{primary-unlisted, primary-opaque,
 use Rattle.placed.proofs.good_primary.Statement.{statement}
 use Rattle.placed.proofs.good_primary.Tie as tie
 
-word-requires : tie.Need-word-requires
-word-requires c κs = search needs
-
-row-named-requires : tie.Need-row-named-requires
-row-named-requires c κs = search needs
-
-enum-told : tie.Need-enum-told
-enum-told c = search needs
-
-enum-known-found : tie.Need-enum-known-found
-enum-known-found c = search needs
-
-type-of-requires : tie.Need-type-of-requires
-type-of-requires c κs = search needs
-
-is-image-requires : tie.Need-is-image-requires
-is-image-requires c κs = search needs
-
-record-word-requires : tie.Need-record-word-requires
-record-word-requires c κs = search needs
-
 returns : tie.Need-returns
 returns c = λ head pl f v. primary-shown v _ (c .before .before .before .before .before .before .before .before .word .ensures) _ (c .before .before .before .before .before .before .before .row-named .ensures head pl f v) (c .before .before .before .before .before .found .given .0 .0) (c .before .before .before .before .before .found .given .1) _ (c .before .before .before .type-of .ensures) (sym (c .before .before .is-image .ensures) ∙ c .before .if1 .taken) _ (c .record-word .ensures)
 
@@ -37,15 +16,5 @@ returns-3 c = λ head pl f v. primary-opaque v _ (c .before .before .before .bef
 
 pub good-primary-spec : {M : Type 1} → statement M
 good-primary-spec =
-    tie.close
-    (tie.spec
-    word-requires
-    row-named-requires
-    enum-told
-    enum-known-found
-    type-of-requires
-    is-image-requires
-    record-word-requires
-    returns
-    returns-2
-    returns-3)
+    tie.close (tie.spec (search needs) (search needs) (search needs) (search needs) (search needs) (search needs)
+    (λ c κs. search needs) returns returns-2 returns-3)

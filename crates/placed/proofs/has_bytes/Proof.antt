@@ -4,15 +4,6 @@ use Rattle.placed.proofs.PlaceLaws.{bytes-none, bytes-some}
 use Rattle.placed.proofs.has_bytes.Statement.{statement}
 use Rattle.placed.proofs.has_bytes.Tie as tie
 
-record-word-requires : tie.Need-record-word-requires
-record-word-requires c κs = search needs
-
-type-of-requires : tie.Need-type-of-requires
-type-of-requires c κs = search needs
-
-is-coded-requires : tie.Need-is-coded-requires
-is-coded-requires c κs = search needs
-
 returns : tie.Need-returns
 returns c = λ head pl f v h. bytes-none v (c .before .before .before .before .before .args .row .0) h _ (c .before .before .before .record-word .ensures) (c .before .before .if1 .taken) _ (c .before .type-of .ensures) _ (c .is-coded .ensures)
 
@@ -20,5 +11,4 @@ returns-2 : tie.Need-returns-2
 returns-2 c = λ head pl f v h. bytes-some v (c .before .before .before .args .row .0) h _ (c .before .record-word .ensures) (c .if1 .left)
 
 pub has-bytes-spec : {M : Type 1} → statement M
-has-bytes-spec =
-    tie.close (tie.spec record-word-requires type-of-requires is-coded-requires returns returns-2)
+has-bytes-spec = tie.close (tie.spec (λ c κs. search needs) (search needs) (search needs) returns returns-2)

@@ -27,18 +27,6 @@ Inv-loop table row end n j₀ j =
 abbrev μ-loop : tie.MeasureT-loop
 μ-loop table row end n j₀ j = n - j
 
-record-word-requires : tie.Need-record-word-requires Inv-loop μ-loop
-record-word-requires c κs = search needs
-
-cast-n : tie.Need-cast-n Inv-loop μ-loop
-cast-n c = search needs
-
-loop-holds : tie.Need-loop-holds Inv-loop μ-loop
-loop-holds c = λ head pl f v h g. refl
-
-extent-of-requires : tie.Need-extent-of-requires Inv-loop μ-loop
-extent-of-requires c κs = search needs
-
 returns : tie.Need-returns Inv-loop μ-loop
 returns c = λ head pl f v h g.
     let l = extents-count v (c .before .before .before .before .before .before .args .row .0) _ h (c .before .before .before .before .record-word .ensures) in
@@ -50,12 +38,6 @@ returns-2 c = λ head pl f v h g.
     let l = extents-count v (c .before .before .before .before .before .before .before .before .args .row .0) _ h (c .before .before .before .before .before .before .record-word .ensures) in
     let q = c .before .before .before .extent-of .ensures head pl f v h (omega arith) in
     extents-fail _ _ (c .before .before .before .before .before .loop .j) (c .before .before .before .before .before .loop .inv head pl f v h g) (omega arith) (ends-past (c .before .before .before .before .before .before .before .before .args .end) _ _ (c .before .before .before .extent-of .result .offset) (c .before .before .before .extent-of .result .size) (c .before .before .before .before .before .before .before .before .fits .end) (q .1) (q .0) (omega arith))
-
-add-j : tie.Need-add-j Inv-loop μ-loop
-add-j c = search needs
-
-loop-less : tie.Need-loop-less Inv-loop μ-loop
-loop-less c = search needs
 
 loop-again : tie.Need-loop-again Inv-loop μ-loop
 loop-again c = λ head pl f v h g.
@@ -70,17 +52,5 @@ returns-3 c = λ head pl f v h g.
 
 pub lie-before-spec : {M : Type 1} → statement M
 lie-before-spec =
-    tie.close
-    (tie.spec
-    Inv-loop
-    μ-loop
-    record-word-requires
-    cast-n
-    loop-holds
-    extent-of-requires
-    returns
-    returns-2
-    add-j
-    loop-less
-    loop-again
-    returns-3)
+    tie.close (tie.spec Inv-loop μ-loop (λ c κs. search needs) (search needs) (λ c. λ head pl f v h g. refl)
+    (search needs) returns returns-2 (search needs) (search needs) loop-again returns-3)

@@ -5,22 +5,11 @@ use Rattle.placed.proofs.PlaceLaws.{within-idat, within-file}
 use Rattle.placed.proofs.lies_within.Statement.{statement}
 use Rattle.placed.proofs.lies_within.Tie as tie
 
-record-word-requires : tie.Need-record-word-requires
-record-word-requires c κs = search needs
-
-lie-before-requires : tie.Need-lie-before-requires
-lie-before-requires c κs = search needs
-
 returns : tie.Need-returns
 returns c = λ head pl f v z h g. c .lie-before .ensures head pl f v h g ∙ sym (within-idat v (c .before .before .before .before .args .row .0) h _ (c .before .before .record-word .ensures) (c .before .before .before .before .args .total) (c .before .if1 .taken) _ z)
-
-lie-before-requires-2 : tie.Need-lie-before-requires-2
-lie-before-requires-2 c κs = search needs
 
 returns-2 : tie.Need-returns-2
 returns-2 c = λ head pl f v z h g. c .lie-before2 .ensures head pl f v h g ∙ sym (within-file v (c .before .before .before .before .args .row .0) h _ (c .before .before .record-word .ensures) (c .before .before .before .before .args .total) (c .before .if1 .left))
 
 pub lies-within-spec : {M : Type 1} → statement M
-lies-within-spec =
-    tie.close
-    (tie.spec record-word-requires lie-before-requires returns lie-before-requires-2 returns-2)
+lies-within-spec = tie.close (tie.spec (λ c κs. search needs) (search needs) returns (search needs) returns-2)

@@ -6,20 +6,11 @@ use Rattle.placed.proofs.PlaceLaws.{fault-13, fault-outside, fault-empt
 use Rattle.placed.proofs.place_fault.Statement.{statement}
 use Rattle.placed.proofs.place_fault.Tie as tie
 
-good-location-requires : tie.Need-good-location-requires
-good-location-requires c κs = search needs
-
 returns : tie.Need-returns
 returns c = λ head pl f v w i h. fault-13 (c .before .before .before .args .total) head f (itemAt f (c .before .before .before .args .row .0)) _ (c .before .good-location .ensures head pl f v w h) (not-true _ (c .if1 .taken))
 
-lies-within-requires : tie.Need-lies-within-requires
-lies-within-requires c κs = search needs
-
 returns-2 : tie.Need-returns-2
 returns-2 c = λ head pl f v w i h. fault-outside (c .before .before .before .before .before .args .total) head f (itemAt f (c .before .before .before .before .before .args .row .0)) _ (c .before .before .before .good-location .ensures head pl f v w h) (not-false _ (c .before .before .if1 .left)) _ (c .before .lies-within .ensures head pl f v i h) (not-true _ (c .if2 .taken))
-
-has-bytes-requires : tie.Need-has-bytes-requires
-has-bytes-requires c κs = search needs
 
 returns-3 : tie.Need-returns-3
 returns-3 c = λ head pl f v w i h. fault-empty (c .before .before .before .before .before .before .before .args .total) head f (itemAt f (c .before .before .before .before .before .before .before .args .row .0)) _ (c .before .before .before .before .before .good-location .ensures head pl f v w h) (not-false _ (c .before .before .before .before .if1 .left)) _ (c .before .before .before .lies-within .ensures head pl f v i h) (not-false _ (c .before .before .if2 .left)) _ (c .before .has-bytes .ensures head pl f v h) (not-true _ (c .if3 .taken))
@@ -29,12 +20,4 @@ returns-4 c = λ head pl f v w i h. fault-none (c .before .before .before .befor
 
 pub place-fault-spec : {M : Type 1} → statement M
 place-fault-spec =
-    tie.close
-    (tie.spec
-    good-location-requires
-    returns
-    lies-within-requires
-    returns-2
-    has-bytes-requires
-    returns-3
-    returns-4)
+    tie.close (tie.spec (search needs) returns (search needs) returns-2 (search needs) returns-3 returns-4)

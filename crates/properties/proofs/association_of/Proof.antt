@@ -5,11 +5,6 @@ use native.Mathlib.Omega.{arith}
 use borrow.Author.Needs.{needs}
 use Rattle.properties.proofs.association_of.Statement.{statement}
 use Rattle.properties.proofs.association_of.Tie as tie
-use Rattle.properties.proofs.association_of.Reads as reads
-use Rattle.properties.proofs.association_of.Lts as lts
-
-rem-result : tie.Need-rem-result
-rem-result c = search needs
 
 add-result : tie.Need-add-result
 add-result c = omega (arith, mod-lt (c .before .args .a) {m = c .before .args .mark} (c .before .pre .0))
@@ -21,4 +16,4 @@ returns-2 : tie.Need-returns-2
 returns-2 c = index-low (c .before .args .a) (c .before .args .mark) (c .before .pre .0) (c .if1 .left)
 
 pub association-of-spec : {M : Type 1} → statement M
-association-of-spec = tie.close (tie.spec rem-result add-result returns returns-2)
+association-of-spec = tie.close (tie.spec (search needs) add-result returns returns-2)

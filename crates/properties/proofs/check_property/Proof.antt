@@ -5,22 +5,6 @@ use mathlib.Core.Path.{sym, ap, _∙_}
 use borrow.Author.Needs.{needs}
 use Rattle.properties.proofs.check_property.Statement.{statement}
 use Rattle.properties.proofs.check_property.Tie as tie
-use Rattle.properties.proofs.check_property.Reads as reads
-use Rattle.properties.proofs.check_property.Lts as lts
-use Rattle.properties.proofs.check_ispe.Reads as check-ispe-reads
-use Rattle.properties.proofs.has_length.Reads as has-length-reads
-
-check-ispe-requires : tie.Need-check-ispe-requires
-check-ispe-requires c κs = search needs
-
-has-length-requires : tie.Need-has-length-requires
-has-length-requires c κs = search needs
-
-has-length-requires-2 : tie.Need-has-length-requires-2
-has-length-requires-2 c κs = search needs
-
-has-length-requires-3 : tie.Need-has-length-requires-3
-has-length-requires-3 c κs = search needs
 
 returns : tie.Need-returns
 returns c = c .check-ispe .ensures ∙ sym (ap toldChecked (held-ispe (c .before .before .before .args .kind) (c .before .before .before .args .place) (c .before .before .before .args .s .now) (c .before .match .keys1)))
@@ -40,14 +24,5 @@ returns-5 c = sym (ap toldChecked (held-other (c .before .before .args .kind) (c
 
 pub check-property-spec : {M : Type 1} → statement M
 check-property-spec =
-    tie.close
-    (tie.spec
-    check-ispe-requires
-    has-length-requires
-    has-length-requires-2
-    has-length-requires-3
-    returns
-    returns-2
-    returns-3
-    returns-4
-    returns-5)
+    tie.close (tie.spec (search needs) (search needs) (search needs) (search needs) returns returns-2 returns-3
+    returns-4 returns-5)

@@ -4,8 +4,6 @@ use Rattle.properties.specs.Steps.{toldChecked}
 use mathlib.Core.Path.{sym, ap}
 use Rattle.properties.proofs.has_length.Statement.{statement}
 use Rattle.properties.proofs.has_length.Tie as tie
-use Rattle.properties.proofs.has_length.Reads as reads
-use Rattle.properties.proofs.has_length.Lts as lts
 
 returns : tie.Need-returns
 unfolding toldChecked

@@ -2,8 +2,6 @@
 use Rattle.properties.proofs.LevelLaws.{level-first, level-second, level-another}
 use Rattle.properties.proofs.level_with.Statement.{statement}
 use Rattle.properties.proofs.level_with.Tie as tie
-use Rattle.properties.proofs.level_with.Reads as reads
-use Rattle.properties.proofs.level_with.Lts as lts
 
 returns : tie.Need-returns
 returns c = λ bs b is k h z. level-first (c .before .args .l) (c .before .args .kind) (c .before .args .body) (c .before .args .end) bs b is k h z (c .if1 .taken)

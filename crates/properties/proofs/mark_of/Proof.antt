@@ -4,14 +4,8 @@ use Rattle.fields.proofs.FieldLaws.{pick-yes, pick-no}
 use mathlib.Core.Path.{sym}
 use Rattle.properties.proofs.mark_of.Statement.{statement}
 use Rattle.properties.proofs.mark_of.Tie as tie
-use Rattle.properties.proofs.mark_of.Reads as reads
-use Rattle.properties.proofs.mark_of.Lts as lts
-
-returns : tie.Need-returns
-returns c = sym (pick-yes _ _ (eq-eqb _ _ (c .if1 .taken)))
-
-returns-2 : tie.Need-returns-2
-returns-2 c = sym (pick-no _ _ (ne-eqb _ _ (c .if1 .left)))
 
 pub mark-of-spec : {M : Type 1} → statement M
-mark-of-spec = tie.close (tie.spec returns returns-2)
+mark-of-spec =
+    tie.close (tie.spec (λ c. sym (pick-yes _ _ (eq-eqb _ _ (c .if1 .taken))))
+    (λ c. sym (pick-no _ _ (ne-eqb _ _ (c .if1 .left)))))

@@ -5,20 +5,12 @@ use native.Mathlib.Omega.{arith}
 use borrow.Author.Needs.{needs}
 use Rattle.properties.proofs.put_associations.Statement.{statement}
 use Rattle.properties.proofs.put_associations.Tie as tie
-use Rattle.properties.proofs.put_associations.Reads as reads
-use Rattle.properties.proofs.put_associations.Lts as lts
-use Rattle.properties.proofs.association_of.Reads as association-of-reads
-use Rattle.properties.proofs.mark_of.Reads as mark-of-reads
-use Rattle.properties.proofs.word_at.Reads as word-at-reads
 
 abbrev Inv-loop : tie.InvT-loop
 Inv-loop s from w k place table₀ used most mark at₀ j₀ table at j = ListSo s from w k place most used table₀ table at j
 
 abbrev μ-loop : tie.MeasureT-loop
 μ-loop s from w k place table₀ used most mark at₀ j₀ table at j = k - j
-
-mark-of-requires : tie.Need-mark-of-requires Inv-loop μ-loop
-mark-of-requires c κs = search needs
 
 loop-holds : tie.Need-loop-holds Inv-loop μ-loop
 loop-holds c = list-begin (c .before .before .before .args .s .now) (c .before .before .before .args .from) (c .before .before .before .args .w) (c .before .before .before .args .k) (c .before .before .before .args .place) (c .before .before .before .args .most) (c .before .before .before .args .used) (c .before .before .before .args .table .now) (c .before .before .before .pre .0)
@@ -53,26 +45,11 @@ returns-3 c = (list-none (c .before .before .before .before .before .before .bef
 association-of-requires : tie.Need-association-of-requires Inv-loop μ-loop
 association-of-requires c κs = let m = mark-small (c .before .before .before .before .before .before .before .before .before .args .w) (c .before .before .before .before .before .before .before .before .before .pre .1) in let e = c .before .before .before .before .before .before .mark-of .ensures in (omega arith, omega arith)
 
-add-table : tie.Need-add-table Inv-loop μ-loop
-add-table c = search needs
-
-add-table-2 : tie.Need-add-table-2 Inv-loop μ-loop
-add-table-2 c = search needs
-
-mul-table : tie.Need-mul-table Inv-loop μ-loop
-mul-table c = search needs
-
 slice-write-table : tie.Need-slice-write-table Inv-loop μ-loop
 slice-write-table c = let e = list-length (c .before .before .before .before .before .before .before .before .before .before .args .s .now) (c .before .before .before .before .before .before .before .before .before .before .args .from) (c .before .before .before .before .before .before .before .before .before .before .args .w) (c .before .before .before .before .before .before .before .before .before .before .args .k) (c .before .before .before .before .before .before .before .before .before .before .args .place) (c .before .before .before .before .before .before .before .before .before .before .args .most) (c .before .before .before .before .before .before .before .before .before .before .args .used) (c .before .before .before .before .before .before .before .before .before .before .args .table .now) (c .before .before .before .before .before .before .loop .table) (c .before .before .before .before .before .before .loop .at) (c .before .before .before .before .before .before .loop .j) (c .before .before .before .before .before .before .loop .inv) in omega arith
 
 add-at : tie.Need-add-at Inv-loop μ-loop
 add-at c = omega (arith, c .before .before .before .before .before .before .loop .inv .here, c .before .before .before .before .if1 .left)
-
-add-j : tie.Need-add-j Inv-loop μ-loop
-add-j c = search needs
-
-loop-less : tie.Need-loop-less Inv-loop μ-loop
-loop-less c = omega arith
 
 loop-again : tie.Need-loop-again Inv-loop μ-loop
 loop-again c = list-more (c .before .before .before .before .before .before .before .before .before .before .args .s .now) (c .before .before .before .before .before .before .before .before .before .before .args .from) (c .before .before .before .before .before .before .before .before .before .before .args .w) (c .before .before .before .before .before .before .before .before .before .before .args .k) (c .before .before .before .before .before .before .before .before .before .before .args .place) (c .before .before .before .before .before .before .before .before .before .before .args .most) (c .before .before .before .before .before .before .before .before .before .before .args .used) (c .before .before .before .before .before .before .before .before .before .before .args .table .now) (c .before .before .before .before .before .before .loop .table) (c .before .before .before .before .before .before .loop .at) (c .before .before .before .before .before .before .loop .j) (c .before .before .before .before .before .before .loop .inv) (c .before .before .before .before .before .loop-test .taken) (c .before .before .before .before .if1 .left) (c .before .before .before .word-at .result) (c .before .before .before .before .before .before .before .mark-of .result) (c .before .before .before .word-at .ensures) (c .before .before .before .before .before .before .before .mark-of .ensures) (c .before .before .before .before .before .before .before .before .before .shared-slice-known .given) (c .before .before .before .before .before .before .before .before .before .before .pre .1) (c .before .before .if2 .left) (c .before .if3 .left) _ (c .association-of .ensures)
@@ -85,29 +62,6 @@ returns-4 c = list-done (c .before .before .before .before .before .args .s .now
 
 pub put-associations-spec : {M : Type 1} → statement M
 put-associations-spec =
-    tie.close
-    (tie.spec
-    Inv-loop
-    μ-loop
-    mark-of-requires
-    loop-holds
-    sub-if1
-    same-length
-    returns
-    word-at-requires
-    rem-if2
-    same-length-2
-    returns-2
-    same-length-3
-    returns-3
-    association-of-requires
-    add-table
-    add-table-2
-    mul-table
-    slice-write-table
-    add-at
-    add-j
-    loop-less
-    loop-again
-    same-length-4
-    returns-4)
+    tie.close (tie.spec Inv-loop μ-loop (search needs) loop-holds sub-if1 same-length returns word-at-requires rem-if2
+    same-length-2 returns-2 same-length-3 returns-3 association-of-requires (search needs) (search needs)
+    (search needs) slice-write-table add-at (search needs) (λ c. omega arith) loop-again same-length-4 returns-4)

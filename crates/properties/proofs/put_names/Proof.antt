@@ -6,9 +6,6 @@ use native.Mathlib.Omega.{arith}
 use borrow.Author.Needs.{needs}
 use Rattle.properties.proofs.put_names.Statement.{statement}
 use Rattle.properties.proofs.put_names.Tie as tie
-use Rattle.properties.proofs.put_names.Reads as reads
-use Rattle.properties.proofs.put_names.Lts as lts
-use Rattle.properties.proofs.put_named.Reads as put-named-reads
 
 abbrev Inv-loop : tie.InvT-loop
 Inv-loop s from count f place table₀ n at₀ used₀ above₀ hope₀ i₀ table at used above hope i = NamesSo s from count (f .most) (f .version) (f .word) place n table₀ table at used above i
@@ -22,35 +19,17 @@ loop-holds c = names-begin (c .before .before .args .s .now) (c .before .before 
 put-named-requires : tie.Need-put-named-requires Inv-loop μ-loop
 put-named-requires c κs = (c .before .before .loop .inv .here, c .before .before .before .before .before .pre .1, c .before .before .before .before .before .pre .2, c .before .before .loop .inv .few, omega (arith, c .before .before .loop .inv .kept .kept .same-length))
 
-enum-known-t : tie.Need-enum-known-t Inv-loop μ-loop
-enum-known-t c = search needs
-
 same-length : tie.Need-same-length Inv-loop μ-loop
 same-length c = c .before .before .before .before .before .put-named .kept .1 .1 .1 .1 .0 ∙ c .before .before .before .before .before .before .before .before .loop .inv .kept .kept .same-length
 
 returns : tie.Need-returns Inv-loop μ-loop
 returns c = names-refused (c .before .before .before .before .before .before .before .before .before .before .before .args .s .now) (c .before .before .before .before .before .before .before .before .before .before .before .args .from) (c .before .before .before .before .before .before .before .before .before .before .before .args .count) (c .before .before .before .before .before .before .before .before .before .before .before .args .f .most) (c .before .before .before .before .before .before .before .before .before .before .before .args .f .version) (c .before .before .before .before .before .before .before .before .before .before .before .args .f .word) (c .before .before .before .before .before .before .before .before .before .before .before .args .place) (c .before .before .before .before .before .before .before .before .before .before .before .args .n) (c .before .before .before .before .before .before .before .before .before .before .before .args .table .now) (c .before .before .before .before .before .before .before .before .loop .table) (c .before .before .before .before .before .before .before .before .loop .at) (c .before .before .before .before .before .before .before .before .loop .used) (c .before .before .before .before .before .before .before .before .loop .above) (c .before .before .before .before .before .before .before .before .loop .i) (c .before .before .before .before .before .before .before .before .loop .inv) (c .before .before .before .before .before .before .before .loop-test .taken) (c .before .before .before .before .before .before .before .before .before .before .before .pre .2) _ _ (c .before .before .before .before .before .put-named .ensures (c .before .before .before .before .before .before .before .before .loop .inv .entries) (c .before .before .before .before .before .before .before .before .loop .inv .total) (c .before .before .before .before .before .before .before .before .loop .inv .last)) _ (c .before .t .given .1)
 
-enum-known-t-2 : tie.Need-enum-known-t-2 Inv-loop μ-loop
-enum-known-t-2 c = search needs
-
 add-used : tie.Need-add-used Inv-loop μ-loop
 add-used c = let b = put-here (c .before .before .before .before .before .before .before .before .before .before .before .args .s .now) (c .before .before .before .before .before .before .before .before .before .before .before .args .from) (c .before .before .before .before .before .before .before .before .before .before .before .args .count) (c .before .before .before .before .before .before .before .before .before .before .before .args .f .most) (c .before .before .before .before .before .before .before .before .before .before .before .args .f .version) (c .before .before .before .before .before .before .before .before .before .before .before .args .f .word) (c .before .before .before .before .before .before .before .before .before .before .before .args .place) (c .before .before .before .before .before .before .before .before .before .before .before .args .n) (c .before .before .before .before .before .before .before .before .before .before .before .args .table .now) (c .before .before .before .before .before .before .before .before .loop .table) (c .before .before .before .before .before .before .before .before .loop .at) (c .before .before .before .before .before .before .before .before .loop .used) (c .before .before .before .before .before .before .before .before .loop .above) (c .before .before .before .before .before .before .before .before .loop .i) (c .before .before .before .before .before .before .before .before .loop .inv) (c .before .before .before .before .before .before .before .loop-test .taken) (c .before .before .before .before .before .before .before .before .before .before .before .pre .2) _ _ (c .before .before .before .before .before .put-named .ensures (c .before .before .before .before .before .before .before .before .loop .inv .entries) (c .before .before .before .before .before .before .before .before .loop .inv .total) (c .before .before .before .before .before .before .before .before .loop .inv .last)) _ _ _ _ (c .before .t2 .given .1) in omega (arith, b .fits)
 
-cast-above : tie.Need-cast-above Inv-loop μ-loop
-cast-above c = search needs
-
-add-above : tie.Need-add-above Inv-loop μ-loop
-add-above c = search needs
-
 add-hope : tie.Need-add-hope Inv-loop μ-loop
 add-hope c = let b = put-here (c .before .before .before .before .before .before .before .before .before .before .before .args .s .now) (c .before .before .before .before .before .before .before .before .before .before .before .args .from) (c .before .before .before .before .before .before .before .before .before .before .before .args .count) (c .before .before .before .before .before .before .before .before .before .before .before .args .f .most) (c .before .before .before .before .before .before .before .before .before .before .before .args .f .version) (c .before .before .before .before .before .before .before .before .before .before .before .args .f .word) (c .before .before .before .before .before .before .before .before .before .before .before .args .place) (c .before .before .before .before .before .before .before .before .before .before .before .args .n) (c .before .before .before .before .before .before .before .before .before .before .before .args .table .now) (c .before .before .before .before .before .before .before .before .loop .table) (c .before .before .before .before .before .before .before .before .loop .at) (c .before .before .before .before .before .before .before .before .loop .used) (c .before .before .before .before .before .before .before .before .loop .above) (c .before .before .before .before .before .before .before .before .loop .i) (c .before .before .before .before .before .before .before .before .loop .inv) (c .before .before .before .before .before .before .before .loop-test .taken) (c .before .before .before .before .before .before .before .before .before .before .before .pre .2) _ _ (c .before .before .before .before .before .put-named .ensures (c .before .before .before .before .before .before .before .before .loop .inv .entries) (c .before .before .before .before .before .before .before .before .loop .inv .total) (c .before .before .before .before .before .before .before .before .loop .inv .last)) _ _ _ _ (c .before .t2 .given .1) in omega (arith, b .found .0)
-
-add-i : tie.Need-add-i Inv-loop μ-loop
-add-i c = search needs
-
-loop-less : tie.Need-loop-less Inv-loop μ-loop
-loop-less c = omega arith
 
 loop-again : tie.Need-loop-again Inv-loop μ-loop
 loop-again c = names-more (c .before .before .before .before .before .before .before .before .before .before .before .args .s .now) (c .before .before .before .before .before .before .before .before .before .before .before .args .from) (c .before .before .before .before .before .before .before .before .before .before .before .args .count) (c .before .before .before .before .before .before .before .before .before .before .before .args .f .most) (c .before .before .before .before .before .before .before .before .before .before .before .args .f .version) (c .before .before .before .before .before .before .before .before .before .before .before .args .f .word) (c .before .before .before .before .before .before .before .before .before .before .before .args .place) (c .before .before .before .before .before .before .before .before .before .before .before .args .n) (c .before .before .before .before .before .before .before .before .before .before .before .args .table .now) (c .before .before .before .before .before .before .before .before .loop .table) (c .before .before .before .before .before .before .before .before .loop .at) (c .before .before .before .before .before .before .before .before .loop .used) (c .before .before .before .before .before .before .before .before .loop .above) (c .before .before .before .before .before .before .before .before .loop .i) (c .before .before .before .before .before .before .before .before .loop .inv) (c .before .before .before .before .before .before .before .loop-test .taken) (c .before .before .before .before .before .before .before .before .before .before .before .pre .2) _ _ (c .before .before .before .before .before .put-named .ensures (c .before .before .before .before .before .before .before .before .loop .inv .entries) (c .before .before .before .before .before .before .before .before .loop .inv .total) (c .before .before .before .before .before .before .before .before .loop .inv .last)) _ _ _ _ (c .before .t2 .given .1)
@@ -69,24 +48,6 @@ returns-3 c = names-done (c .before .before .before .before .before .args .s .no
 
 pub put-names-spec : {M : Type 1} → statement M
 put-names-spec =
-    tie.close
-    (tie.spec
-    Inv-loop
-    μ-loop
-    loop-holds
-    put-named-requires
-    enum-known-t
-    same-length
-    returns
-    enum-known-t-2
-    add-used
-    cast-above
-    add-above
-    add-hope
-    add-i
-    loop-less
-    loop-again
-    same-length-2
-    returns-2
-    same-length-3
-    returns-3)
+    tie.close (tie.spec Inv-loop μ-loop loop-holds put-named-requires (search needs) same-length returns (search needs)
+    add-used (search needs) (search needs) add-hope (search needs) (λ c. omega arith) loop-again same-length-2
+    returns-2 same-length-3 returns-3)

@@ -3,36 +3,12 @@ use Rattle.properties.proofs.NameLaws.{read-short, read-many, read-gone
 use borrow.Author.Needs.{needs}
 use Rattle.properties.proofs.read_names.Statement.{statement}
 use Rattle.properties.proofs.read_names.Tie as tie
-use Rattle.properties.proofs.read_names.Reads as reads
-use Rattle.properties.proofs.read_names.Lts as lts
-use Rattle.contents.proofs.read_full.Reads as read-full-reads
-use Rattle.fields.proofs.be32.Reads as be32-reads
-use Rattle.properties.proofs.put_names.Reads as put-names-reads
-use Rattle.properties.proofs.word_bytes.Reads as word-bytes-reads
-
-read-full-requires : tie.Need-read-full-requires
-read-full-requires c κs = search needs
-
-enum-known-h : tie.Need-enum-known-h
-enum-known-h c = search needs
-
-enum-known-h-2 : tie.Need-enum-known-h-2
-enum-known-h-2 c = search needs
 
 returns : tie.Need-returns
 returns c = read-short (c .before .before .before .before .before .before .before .args .table .now) (c .before .before .before .before .before .before .before .args .n) (c .before .before .before .before .before .before .before .args .most) (c .before .before .before .before .before .before .before .args .place) (c .before .before .before .before .before .before .before .args .s .now) _ (c .before .before .before .before .read-full .ensures) _ _ (c .before .before .h2 .given .1) (c .if1 .taken)
 
-be32-requires : tie.Need-be32-requires
-be32-requires c κs = search needs
-
 returns-2 : tie.Need-returns-2
 returns-2 c = read-many (c .before .before .before .before .before .before .before .before .before .args .table .now) (c .before .before .before .before .before .before .before .before .before .args .n) (c .before .before .before .before .before .before .before .before .before .args .most) (c .before .before .before .before .before .before .before .before .before .args .place) (c .before .before .before .before .before .before .before .before .before .args .s .now) _ (c .before .before .before .before .before .before .read-full .ensures) _ _ (c .before .before .before .before .h2 .given .1) (c .before .before .if1 .left) _ (c .before .be32 .ensures) (c .if2 .taken)
-
-word-bytes-requires : tie.Need-word-bytes-requires
-word-bytes-requires c κs = search needs
-
-cast-put-names : tie.Need-cast-put-names
-cast-put-names c = search needs
 
 put-names-requires : tie.Need-put-names-requires
 put-names-requires c κs = (c .before .before .before .before .if1 .left, word-width (c .before .before .before .before .before .before .h2 .given .0 .1 .0) _ (c .before .word-bytes .ensures), c .before .before .before .before .before .before .before .before .before .before .before .pre .0, c .before .before .before .before .before .before .before .before .before .before .before .pre .1)
@@ -40,25 +16,10 @@ put-names-requires c κs = (c .before .before .before .before .if1 .left, word-w
 returns-3 : tie.Need-returns-3
 returns-3 c = read-gone (c .before .before .before .before .before .before .args .table .now) (c .before .before .before .before .before .before .args .n) (c .before .before .before .before .before .before .args .most) (c .before .before .before .before .before .before .args .place) (c .before .before .before .before .before .before .args .s .now) _ (c .before .before .before .read-full .ensures) _ (c .before .h .given .1)
 
-same-length : tie.Need-same-length
-same-length c = search needs
-
 returns-4 : tie.Need-returns-4
 returns-4 c = read-entries (c .before .before .before .before .before .before .before .before .before .before .before .before .before .before .args .table .now) (c .before .before .before .before .before .before .before .before .before .before .before .before .before .before .args .n) (c .before .before .before .before .before .before .before .before .before .before .before .before .before .before .args .most) (c .before .before .before .before .before .before .before .before .before .before .before .before .before .before .args .place) (c .before .before .before .before .before .before .before .before .before .before .before .before .before .before .args .s .now) _ (c .before .before .before .before .before .before .before .before .before .before .before .read-full .ensures) _ _ (c .before .before .before .before .before .before .before .before .before .h2 .given .1) (c .before .before .before .before .before .before .before .if1 .left) _ (c .before .before .before .before .before .before .be32 .ensures) (c .before .before .before .before .before .if2 .left) _ (c .before .before .before .before .word-bytes .ensures) _ _ (c .before .before .put-names .ensures)
 
 pub read-names-spec : {M : Type 1} → statement M
 read-names-spec =
-    tie.close
-    (tie.spec
-    read-full-requires
-    enum-known-h
-    enum-known-h-2
-    returns
-    be32-requires
-    returns-2
-    word-bytes-requires
-    cast-put-names
-    put-names-requires
-    returns-3
-    same-length
-    returns-4)
+    tie.close (tie.spec (search needs) (search needs) (search needs) returns (λ c κs. search needs) returns-2
+    (search needs) (search needs) put-names-requires returns-3 (search needs) returns-4)

@@ -7,10 +7,6 @@ use native.Mathlib.Omega.{arith}
 use borrow.Author.Needs.{needs}
 use Rattle.properties.proofs.read_properties.Statement.{statement}
 use Rattle.properties.proofs.read_properties.Tie as tie
-use Rattle.properties.proofs.read_properties.Reads as reads
-use Rattle.properties.proofs.read_properties.Lts as lts
-use Rattle.boxes.proofs.child_at.Reads as child-at-reads
-use Rattle.properties.proofs.add_property.Reads as add-property-reads
 
 abbrev Inv-loop : tie.InvT-loop
 Inv-loop s place base table₀ at₀ n₀ table at n = PropertiesSo s place base table₀ table at n
@@ -18,17 +14,8 @@ Inv-loop s place base table₀ at₀ n₀ table at n = PropertiesSo s place base
 abbrev μ-loop : tie.MeasureT-loop
 μ-loop s place base table₀ at₀ n₀ table at n = length s - at
 
-loop-holds : tie.Need-loop-holds Inv-loop μ-loop
-loop-holds c = properties-begin _ _ _ _
-
-child-at-requires : tie.Need-child-at-requires Inv-loop μ-loop
-child-at-requires c κs = search needs
-
 add-here : tie.Need-add-here Inv-loop μ-loop
 add-here c = omega (arith, c .before .loop .inv .here)
-
-enum-known-c : tie.Need-enum-known-c Inv-loop μ-loop
-enum-known-c c = search needs
 
 sub-add-property : tie.Need-sub-add-property Inv-loop μ-loop
 sub-add-property c = let w = properties-further (c .before .before .before .before .before .before .before .args .s .now) (c .before .before .before .before .before .before .before .args .place) (c .before .before .before .before .before .before .before .args .base) (c .before .before .before .before .before .before .before .args .table .now) (c .before .before .before .before .loop .table) (c .before .before .before .before .loop .at) (c .before .before .before .before .loop .n) (c .before .before .before .before .loop .inv) (c .before .c .given .0 .0) (c .before .c .given .0 .1 .0) (c .before .c .given .0 .1 .1 .0) (sym (c .before .before .before .child-at .ensures) ∙ c .before .c .given .1) in omega arith
@@ -45,17 +32,11 @@ sub-add-property-2 c = let w = properties-further (c .before .before .before .be
 add-property-requires : tie.Need-add-property-requires Inv-loop μ-loop
 add-property-requires c κs = let w = properties-further (c .before .before .before .before .before .before .before .before .before .args .s .now) (c .before .before .before .before .before .before .before .before .before .args .place) (c .before .before .before .before .before .before .before .before .before .args .base) (c .before .before .before .before .before .before .before .before .before .args .table .now) (c .before .before .before .before .before .before .loop .table) (c .before .before .before .before .before .before .loop .at) (c .before .before .before .before .before .before .loop .n) (c .before .before .before .before .before .before .loop .inv) (c .before .before .before .c .given .0 .0) (c .before .before .before .c .given .0 .1 .0) (c .before .before .before .c .given .0 .1 .1 .0) (sym (c .before .before .before .before .before .child-at .ensures) ∙ c .before .before .before .c .given .1) in (omega (arith, c .before .before .before .before .before .before .loop .inv .here), omega arith, c .before .before .before .before .before .before .loop .inv .few, omega (arith, c .before .before .before .before .before .before .loop .inv .kept .kept .same-length))
 
-enum-known-k : tie.Need-enum-known-k Inv-loop μ-loop
-enum-known-k c = search needs
-
 same-length : tie.Need-same-length Inv-loop μ-loop
 same-length c = c .before .before .before .before .before .add-property .kept .1 .1 .1 .1 .0 ∙ c .before .before .before .before .before .before .before .before .before .before .before .before .loop .inv .kept .kept .same-length
 
 returns : tie.Need-returns Inv-loop μ-loop
 returns c = properties-held (c .before .before .before .before .before .before .before .before .before .before .before .before .before .before .before .args .s .now) (c .before .before .before .before .before .before .before .before .before .before .before .before .before .before .before .args .place) (c .before .before .before .before .before .before .before .before .before .before .before .before .before .before .before .args .base) (c .before .before .before .before .before .before .before .before .before .before .before .before .before .before .before .args .table .now) (c .before .before .before .before .before .before .before .before .before .before .before .before .loop .table) (c .before .before .before .before .before .before .before .before .before .before .before .before .loop .at) (c .before .before .before .before .before .before .before .before .before .before .before .before .loop .n) (c .before .before .before .before .before .before .before .before .before .before .before .before .loop .inv) (c .before .before .before .before .before .before .before .before .before .c .given .0 .0) (c .before .before .before .before .before .before .before .before .before .c .given .0 .1 .0) (c .before .before .before .before .before .before .before .before .before .c .given .0 .1 .1 .0) (sym (c .before .before .before .before .before .before .before .before .before .before .before .child-at .ensures) ∙ c .before .before .before .before .before .before .before .before .before .c .given .1) _ _ (c .before .before .before .before .before .add-property .ensures) _ (c .before .k .given .1)
-
-enum-told : tie.Need-enum-told Inv-loop μ-loop
-enum-told c = search needs
 
 add-n : tie.Need-add-n Inv-loop μ-loop
 add-n c = omega (arith, c .before .before .before .before .before .before .before .before .before .before .before .loop .inv .few)
@@ -66,26 +47,17 @@ loop-less c = let w = properties-further (c .before .before .before .before .bef
 loop-again : tie.Need-loop-again Inv-loop μ-loop
 loop-again c = properties-more (c .before .before .before .before .before .before .before .before .before .before .before .before .before .before .args .s .now) (c .before .before .before .before .before .before .before .before .before .before .before .before .before .before .args .place) (c .before .before .before .before .before .before .before .before .before .before .before .before .before .before .args .base) (c .before .before .before .before .before .before .before .before .before .before .before .before .before .before .args .table .now) (c .before .before .before .before .before .before .before .before .before .before .before .loop .table) (c .before .before .before .before .before .before .before .before .before .before .before .loop .at) (c .before .before .before .before .before .before .before .before .before .before .before .loop .n) (c .before .before .before .before .before .before .before .before .before .before .before .loop .inv) (c .before .before .before .before .before .before .before .before .c .given .0 .0) (c .before .before .before .before .before .before .before .before .c .given .0 .1 .0) (c .before .before .before .before .before .before .before .before .c .given .0 .1 .1 .0) (sym (c .before .before .before .before .before .before .before .before .before .before .child-at .ensures) ∙ c .before .before .before .before .before .before .before .before .c .given .1) _ _ (c .before .before .before .before .add-property .ensures) (c .enum-told .given .1)
 
-enum-told-2 : tie.Need-enum-told-2 Inv-loop μ-loop
-enum-told-2 c = search needs
-
 same-length-2 : tie.Need-same-length-2 Inv-loop μ-loop
 same-length-2 c = c .before .before .before .loop .inv .kept .kept .same-length
 
 returns-2 : tie.Need-returns-2 Inv-loop μ-loop
 returns-2 c = properties-bad (c .before .before .before .before .before .before .args .s .now) (c .before .before .before .before .before .before .args .place) (c .before .before .before .before .before .before .args .base) (c .before .before .before .before .before .before .args .table .now) (c .before .before .before .loop .table) (c .before .before .before .loop .at) (c .before .before .before .loop .n) (c .before .before .before .loop .inv) (sym (c .before .before .child-at .ensures) ∙ c .enum-told2 .given .1)
 
-enum-told-3 : tie.Need-enum-told-3 Inv-loop μ-loop
-enum-told-3 c = search needs
-
 same-length-3 : tie.Need-same-length-3 Inv-loop μ-loop
 same-length-3 c = c .before .before .before .loop .inv .kept .kept .same-length
 
 returns-3 : tie.Need-returns-3 Inv-loop μ-loop
 returns-3 c = properties-spare (c .before .before .before .before .before .before .args .s .now) (c .before .before .before .before .before .before .args .place) (c .before .before .before .before .before .before .args .base) (c .before .before .before .before .before .before .args .table .now) (c .before .before .before .loop .table) (c .before .before .before .loop .at) (c .before .before .before .loop .n) (c .before .before .before .loop .inv) (sym (c .before .before .child-at .ensures) ∙ c .enum-told3 .given .1)
-
-enum-told-4 : tie.Need-enum-told-4 Inv-loop μ-loop
-enum-told-4 c = search needs
 
 same-length-4 : tie.Need-same-length-4 Inv-loop μ-loop
 same-length-4 c = c .before .before .before .loop .inv .kept .kept .same-length
@@ -95,32 +67,7 @@ returns-4 c = properties-end (c .before .before .before .before .before .before 
 
 pub read-properties-spec : {M : Type 1} → statement M
 read-properties-spec =
-    tie.close
-    (tie.spec
-    Inv-loop
-    μ-loop
-    loop-holds
-    child-at-requires
-    add-here
-    enum-known-c
-    sub-add-property
-    part-add-property-start
-    part-add-property-end
-    sub-add-property-2
-    add-property-requires
-    enum-known-k
-    same-length
-    returns
-    enum-told
-    add-n
-    loop-less
-    loop-again
-    enum-told-2
-    same-length-2
-    returns-2
-    enum-told-3
-    same-length-3
-    returns-3
-    enum-told-4
-    same-length-4
-    returns-4)
+    tie.close (tie.spec Inv-loop μ-loop (λ c. properties-begin _ _ _ _) (search needs) add-here (search needs)
+    sub-add-property part-add-property-start part-add-property-end sub-add-property-2 add-property-requires
+    (search needs) same-length returns (search needs) add-n loop-less loop-again (search needs) same-length-2 returns-2
+    (search needs) same-length-3 returns-3 (search needs) same-length-4 returns-4)

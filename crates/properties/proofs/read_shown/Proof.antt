@@ -3,25 +3,9 @@ use Rattle.properties.proofs.ShownLaws.{shown-within, shown-both, shown
 use borrow.Author.Needs.{needs}
 use Rattle.properties.proofs.read_shown.Statement.{statement}
 use Rattle.properties.proofs.read_shown.Tie as tie
-use Rattle.properties.proofs.read_shown.Reads as reads
-use Rattle.properties.proofs.read_shown.Lts as lts
-use Rattle.properties.proofs.read_level.Reads as read-level-reads
-use Rattle.properties.proofs.read_pair.Reads as read-pair-reads
-
-read-level-requires : tie.Need-read-level-requires
-read-level-requires c κs = search needs
-
-enum-known-r : tie.Need-enum-known-r
-enum-known-r c = search needs
-
-enum-known-r-2 : tie.Need-enum-known-r-2
-enum-known-r-2 c = search needs
 
 read-pair-requires : tie.Need-read-pair-requires
 read-pair-requires c κs = let w = shown-within (c .before .before .before .before .before .before .before .before .before .before .before .before .before .args .s .now) (c .before .before .before .before .before .before .before .before .before .before .before .before .before .args .place) (c .before .before .before .before .before .before .before .before .before .before .before .before .before .args .base) (c .before .before .before .before .before .before .before .before .before .before .before .before .before .args .n) (c .before .before .before .before .before .before .before .before .before .before .before .before .before .args .table .now) _ (c .before .before .before .before .before .before .before .before .before .before .read-level .ensures) _ (c .before .before .before .before .before .before .before .before .r2 .given .1) (c .before .before .before .before .before .if1 .taken) in (w .0, w .1, w .2, w .3, c .before .before .before .before .before .before .before .before .before .before .before .before .before .pre .0, c .before .before .before .before .before .before .before .before .before .before .before .before .before .pre .1, c .before .before .before .before .before .before .before .before .before .before .before .before .before .pre .2)
-
-same-length : tie.Need-same-length
-same-length c = search needs
 
 returns : tie.Need-returns
 returns c = shown-both (c .before .before .before .before .before .before .before .before .before .before .before .before .before .before .before .before .args .s .now) (c .before .before .before .before .before .before .before .before .before .before .before .before .before .before .before .before .args .place) (c .before .before .before .before .before .before .before .before .before .before .before .before .before .before .before .before .args .base) (c .before .before .before .before .before .before .before .before .before .before .before .before .before .before .before .before .args .n) (c .before .before .before .before .before .before .before .before .before .before .before .before .before .before .before .before .args .table .now) _ (c .before .before .before .before .before .before .before .before .before .before .before .before .before .read-level .ensures) _ (c .before .before .before .before .before .before .before .before .before .before .before .r2 .given .1) (c .before .before .before .before .before .before .before .before .if1 .taken) (c .before .before .before .before .before .before .if2 .taken) (c .before .before .before .before .if3 .taken) _ _ (c .before .before .read-pair .ensures)
@@ -40,15 +24,5 @@ returns-5 c = shown-count (c .before .before .before .before .before .before .be
 
 pub read-shown-spec : {M : Type 1} → statement M
 read-shown-spec =
-    tie.close
-    (tie.spec
-    read-level-requires
-    enum-known-r
-    enum-known-r-2
-    read-pair-requires
-    same-length
-    returns
-    returns-2
-    returns-3
-    returns-4
-    returns-5)
+    tie.close (tie.spec (λ c κs. search needs) (search needs) (search needs) read-pair-requires (search needs) returns
+    returns-2 returns-3 returns-4 returns-5)

@@ -6,13 +6,6 @@ use native.Mathlib.Omega.{arith}
 use borrow.Author.Needs.{needs}
 use Rattle.properties.proofs.word_at.Statement.{statement}
 use Rattle.properties.proofs.word_at.Tie as tie
-use Rattle.properties.proofs.word_at.Reads as reads
-use Rattle.properties.proofs.word_at.Lts as lts
-use Rattle.fields.proofs.be16.Reads as be16-reads
-use Rattle.fields.proofs.be8.Reads as be8-reads
-
-be16-requires : tie.Need-be16-requires
-be16-requires c κs = search needs
 
 returns : tie.Need-returns
 returns c = c .be16 .ensures ∙ ap (beAt (c .before .before .before .args .s .now) (c .before .before .before .args .at)) (sym (c .before .if1 .taken))
@@ -24,4 +17,4 @@ returns-2 : tie.Need-returns-2
 returns-2 c = c .be8 .ensures ∙ ap (beAt (c .before .before .before .args .s .now) (c .before .before .before .args .at)) (sym (word-left (c .before .before .before .args .w) (c .before .before .before .pre .1) (c .before .if1 .left)))
 
 pub word-at-spec : {M : Type 1} → statement M
-word-at-spec = tie.close (tie.spec be16-requires returns be8-requires returns-2)
+word-at-spec = tie.close (tie.spec (λ c κs. search needs) returns be8-requires returns-2)

@@ -8,11 +8,6 @@ use native.Mathlib.Omega.{arith}
 use borrow.Author.Needs.{needs}
 use Rattle.reading.proofs.found_idat.Statement.{statement}
 use Rattle.reading.proofs.found_idat.Tie as tie
-use Rattle.reading.proofs.found_idat.Reads as reads
-use Rattle.reading.proofs.found_idat.Lts as lts
-
-array-copy-out-d : tie.Need-array-copy-out-d
-array-copy-out-d c = search needs
 
 returns : tie.Need-returns
 returns c = λ s st. no-idat s (c .before .before .args .at) _ st (ap (λ (l : List Spot). getD l 6 (record { start = 0; body = 0; end = 0 }) .end) (sym (st .spots-are)) ∙ c .if1 .taken)
@@ -27,4 +22,4 @@ returns-2 : tie.Need-returns-2
 returns-2 c = λ s st. idat-is s (c .before .before .args .at) _ st (c .if1 .left)
 
 pub found-idat-spec : {M : Type 1} → statement M
-found-idat-spec = tie.close (tie.spec array-copy-out-d returns add-t11 add-t12 returns-2)
+found-idat-spec = tie.close (tie.spec (search needs) returns add-t11 add-t12 returns-2)

@@ -4,11 +4,6 @@ use native.Mathlib.Omega.{arith}
 use Rattle.reading.proofs.SpotLaws.{no-idat-at, an-idat-at, idat-within}
 use Rattle.reading.proofs.idat_at.Statement.{statement}
 use Rattle.reading.proofs.idat_at.Tie as tie
-use Rattle.reading.proofs.idat_at.Reads as reads
-use Rattle.reading.proofs.idat_at.Lts as lts
-
-array-copy-out-d : tie.Need-array-copy-out-d
-array-copy-out-d c = search needs
 
 returns : tie.Need-returns
 returns c = λ s st. no-idat-at s (c .before .before .before .args .at) _ st (c .if1 .taken)
@@ -20,4 +15,4 @@ returns-2 : tie.Need-returns-2
 returns-2 c = λ s st. an-idat-at s (c .before .before .before .args .at) _ st (c .if1 .left)
 
 pub idat-at-spec : {M : Type 1} → statement M
-idat-at-spec = tie.close (tie.spec array-copy-out-d returns add-result returns-2)
+idat-at-spec = tie.close (tie.spec (search needs) returns add-result returns-2)

@@ -6,39 +6,21 @@ use lib.ListN.{getD}
 use Rattle.boxes.specs.Types.{hdlr, pitm, iloc, iinf, iprp}
 use Rattle.boxes.specs.declared.Spot.{Spot}
 use Rattle.reading.proofs.SpotLaws.{there, not-there}
-use native.Mathlib.Omega.{arith}
 use borrow.Author.Needs.{needs}
 use Rattle.reading.proofs.is_missing.Statement.{statement}
 use Rattle.reading.proofs.is_missing.Tie as tie
-use Rattle.reading.proofs.is_missing.Reads as reads
-use Rattle.reading.proofs.is_missing.Lts as lts
-
-array-copy-out-h : tie.Need-array-copy-out-h
-array-copy-out-h c = search needs
 
 returns : tie.Need-returns
 returns c = λ bs a e. (hdlr, inl refl, not-there hdlr bs a (ap (λ (l : List Spot). getD l 0 (record { start = 0; body = 0; end = 0 }) .end) (sym e) ∙ c .if1 .taken))
 
-array-copy-out-p : tie.Need-array-copy-out-p
-array-copy-out-p c = search needs
-
 returns-2 : tie.Need-returns-2
 returns-2 c = λ bs a e. (pitm, inr (inl refl), not-there pitm bs a (ap (λ (l : List Spot). getD l 1 (record { start = 0; body = 0; end = 0 }) .end) (sym e) ∙ c .if2 .taken))
-
-array-copy-out-i : tie.Need-array-copy-out-i
-array-copy-out-i c = search needs
 
 returns-3 : tie.Need-returns-3
 returns-3 c = λ bs a e. (iinf, inr (inr (inr (inl refl))), not-there iinf bs a (ap (λ (l : List Spot). getD l 2 (record { start = 0; body = 0; end = 0 }) .end) (sym e) ∙ c .if3 .taken))
 
-array-copy-out-l : tie.Need-array-copy-out-l
-array-copy-out-l c = search needs
-
 returns-4 : tie.Need-returns-4
 returns-4 c = λ bs a e. (iloc, inr (inr (inl refl)), not-there iloc bs a (ap (λ (l : List Spot). getD l 3 (record { start = 0; body = 0; end = 0 }) .end) (sym e) ∙ c .if4 .taken))
-
-array-copy-out-r : tie.Need-array-copy-out-r
-array-copy-out-r c = search needs
 
 returns-5 : tie.Need-returns-5
 returns-5 c = λ bs a e. (iprp, inr (inr (inr (inr refl))), not-there iprp bs a (ap (λ (l : List Spot). getD l 4 (record { start = 0; body = 0; end = 0 }) .end) (sym e) ∙ c .if5 .taken))
@@ -48,16 +30,5 @@ returns-6 c = λ bs a e. record { has-hdlr = there hdlr bs (λ z. c .before .bef
 
 pub is-missing-spec : {M : Type 1} → statement M
 is-missing-spec =
-    tie.close
-    (tie.spec
-    array-copy-out-h
-    returns
-    array-copy-out-p
-    returns-2
-    array-copy-out-i
-    returns-3
-    array-copy-out-l
-    returns-4
-    array-copy-out-r
-    returns-5
-    returns-6)
+    tie.close (tie.spec (search needs) returns (search needs) returns-2 (search needs) returns-3 (search needs)
+    returns-4 (search needs) returns-5 returns-6)

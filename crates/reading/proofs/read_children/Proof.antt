@@ -1,27 +1,10 @@
 -- `reading::read_children` meets its contract. Assumes nothing.
 use mathlib.Core.Path.{sym, _∙_}
-use Rattle.reading.proofs.TableLaws.{kept-same}
+use Rattle.records.proofs.KeptLaws.{kept-same}
 use Rattle.reading.proofs.TopStage.{walk-refused-after, missing-after, whole-standing, whole-after}
 use borrow.Author.Needs.{needs}
 use Rattle.reading.proofs.read_children.Statement.{statement}
 use Rattle.reading.proofs.read_children.Tie as tie
-use Rattle.reading.proofs.read_children.Reads as reads
-use Rattle.reading.proofs.read_children.Lts as lts
-use Rattle.boxes.proofs.walk_children.Reads as walk-children-reads
-use Rattle.reading.proofs.is_missing.Reads as is-missing-reads
-use Rattle.reading.proofs.read_contents.Reads as read-contents-reads
-
-walk-children-requires : tie.Need-walk-children-requires
-walk-children-requires c κs = search needs
-
-enum-known-a : tie.Need-enum-known-a
-enum-known-a c = search needs
-
-enum-told : tie.Need-enum-told
-enum-told c = search needs
-
-is-missing-requires : tie.Need-is-missing-requires
-is-missing-requires c κs = search needs
 
 returns : tie.Need-returns
 returns c = let a = c .before .before .before .before .before .before .before .before .args in let q = c .before .before .before .before .before .walk-children in let m = c .before .is-missing in (λ x w. missing-after (a .place) (a .at) (a .total) (a .s .now) (q .result .spots) (sym (q .ensures .0) ∙ c .before .before .enum-told .given .1) (q .ensures .1) _ (m .ensures) (c .if1 .taken) x _, kept-same _)
@@ -32,22 +15,10 @@ read-contents-requires c κs = let a = c .before .before .before .before .before
 returns-2 : tie.Need-returns-2
 returns-2 c = let a = c .before .before .before .before .before .before .before .args in (λ x w. walk-refused-after (a .place) (a .at) (a .total) (a .s .now) _ x _ (sym (c .before .before .before .before .walk-children .ensures .0) ∙ c .before .a .given .1), kept-same _)
 
-same-length : tie.Need-same-length
-same-length c = search needs
-
 returns-3 : tie.Need-returns-3
 returns-3 c = let a = c .before .before .before .before .before .before .before .before .before .before .before .before .args in let q = c .before .before .before .before .before .before .before .before .before .walk-children in let m = c .before .before .before .before .before .is-missing in (λ x w. whole-after (a .place) (a .at) (a .total) (a .s .now) (q .result .spots) (sym (q .ensures .0) ∙ c .before .before .before .before .before .before .enum-told .given .1) (q .ensures .1) _ (m .ensures) (c .before .before .before .before .if1 .left) _ x _ (c .before .before .read-contents .ensures .0 x w), c .before .before .read-contents .ensures .1)
 
 pub read-children-spec : {M : Type 1} → statement M
 read-children-spec =
-    tie.close
-    (tie.spec
-    walk-children-requires
-    enum-known-a
-    enum-told
-    is-missing-requires
-    returns
-    read-contents-requires
-    returns-2
-    same-length
-    returns-3)
+    tie.close (tie.spec (λ c κs. search needs) (search needs) (search needs) (search needs) returns read-contents-requires
+    returns-2 (search needs) returns-3)

@@ -2,22 +2,11 @@
 use mathlib.Core.Path.{sym, _∙_}
 use lib.ListN.{getD}
 use native.Mathlib.Omega.{arith}
-use Rattle.reading.proofs.TableLaws.{kept-same}
+use Rattle.records.proofs.KeptLaws.{kept-same}
 use Rattle.reading.proofs.TopStage.{hdlr-spot, pitm-spot, spot-room, hdlr-refused-after, pitm-refused-after, pitm-after}
 use borrow.Author.Needs.{needs}
 use Rattle.reading.proofs.read_contents.Statement.{statement}
 use Rattle.reading.proofs.read_contents.Tie as tie
-use Rattle.reading.proofs.read_contents.Reads as reads
-use Rattle.reading.proofs.read_contents.Lts as lts
-use Rattle.contents.proofs.read_hdlr.Reads as read-hdlr-reads
-use Rattle.contents.proofs.read_pitm.Reads as read-pitm-reads
-use Rattle.reading.proofs.read_iinf.Reads as read-iinf-reads
-
-array-copy-out-h : tie.Need-array-copy-out-h
-array-copy-out-h c = search needs
-
-array-copy-out-p : tie.Need-array-copy-out-p
-array-copy-out-p c = search needs
 
 sub-read-hdlr : tie.Need-sub-read-hdlr
 sub-read-hdlr c = let k = c .before .before .before .before in let a = k .args in let i = hdlr-spot (a .s .now) (a .at) (a .t3) (k .pre .0) in let j = pitm-spot (a .s .now) (a .at) (a .t3) (k .pre .0) in i .order
@@ -31,15 +20,6 @@ part-read-hdlr-end c = let k = c .before .before .before .before in let a = k .a
 add-read-hdlr : tie.Need-add-read-hdlr
 add-read-hdlr c = let k = c .before .before .before .before .before in let a = k .args in let i = hdlr-spot (a .s .now) (a .at) (a .t3) (k .pre .0) in let j = pitm-spot (a .s .now) (a .at) (a .t3) (k .pre .0) in let r = spot-room _ _ _ _ _ i (k .pre .1) in omega arith
 
-read-hdlr-requires : tie.Need-read-hdlr-requires
-read-hdlr-requires c κs = search needs
-
-enum-known-t : tie.Need-enum-known-t
-enum-known-t c = search needs
-
-enum-told : tie.Need-enum-told
-enum-told c = search needs
-
 sub-read-pitm : tie.Need-sub-read-pitm
 sub-read-pitm c = let k = c .before .before .before .before .before .before .before .before in let a = k .args in let i = hdlr-spot (a .s .now) (a .at) (a .t3) (k .pre .0) in let j = pitm-spot (a .s .now) (a .at) (a .t3) (k .pre .0) in j .order
 
@@ -52,15 +32,6 @@ part-read-pitm-end c = let k = c .before .before .before .before .before .before
 add-read-pitm : tie.Need-add-read-pitm
 add-read-pitm c = let k = c .before .before .before .before .before .before .before .before .before in let a = k .args in let i = hdlr-spot (a .s .now) (a .at) (a .t3) (k .pre .0) in let j = pitm-spot (a .s .now) (a .at) (a .t3) (k .pre .0) in let r = spot-room _ _ _ _ _ j (k .pre .1) in omega arith
 
-read-pitm-requires : tie.Need-read-pitm-requires
-read-pitm-requires c κs = search needs
-
-enum-known-q : tie.Need-enum-known-q
-enum-known-q c = search needs
-
-enum-known-q-2 : tie.Need-enum-known-q-2
-enum-known-q-2 c = search needs
-
 read-iinf-requires : tie.Need-read-iinf-requires
 read-iinf-requires c κs = let k = c .before .before .before .before .before .before .before .before .before .before .before .before .before .before in (k .pre .0, k .pre .1, k .pre .2, k .pre .3)
 
@@ -70,34 +41,12 @@ returns c = let k = c .before .before .before .before .before .before .before .b
 returns-2 : tie.Need-returns-2
 returns-2 c = let k = c .before .before .before .before .before .before .before .before .before .before .before .before .before in let a = k .args in let i = hdlr-spot (a .s .now) (a .at) (a .t3) (k .pre .0) in let j = pitm-spot (a .s .now) (a .at) (a .t3) (k .pre .0) in (λ x w. pitm-refused-after (a .s .now) (a .at) (a .total) (getD (a .t3) 0 (record { start = 0; body = 0; end = 0 })) (getD (a .t3) 1 (record { start = 0; body = 0; end = 0 })) i j (sym (c .before .before .before .before .before .before .before .read-hdlr .ensures) ∙ c .before .before .before .before .before .enum-told .given .1) _ x _ (sym (c .before .before .before .read-pitm .ensures) ∙ c .before .q .given .1), kept-same _)
 
-same-length : tie.Need-same-length
-same-length c = search needs
-
 returns-3 : tie.Need-returns-3
 returns-3 c = let k = c .before .before .before .before .before .before .before .before .before .before .before .before .before .before .before .before .before in let a = k .args in let i = hdlr-spot (a .s .now) (a .at) (a .t3) (k .pre .0) in let j = pitm-spot (a .s .now) (a .at) (a .t3) (k .pre .0) in (λ x w. pitm-after (a .s .now) (a .at) (a .total) (getD (a .t3) 0 (record { start = 0; body = 0; end = 0 })) (getD (a .t3) 1 (record { start = 0; body = 0; end = 0 })) i j (sym (c .before .before .before .before .before .before .before .before .before .before .before .read-hdlr .ensures) ∙ c .before .before .before .before .before .before .before .before .before .enum-told .given .1) _ _ x _ (sym (c .before .before .before .before .before .before .before .read-pitm .ensures) ∙ c .before .before .before .before .before .q2 .given .1) (c .before .before .read-iinf .ensures .0 x w), c .before .before .read-iinf .ensures .1)
 
 pub read-contents-spec : {M : Type 1} → statement M
 read-contents-spec =
-    tie.close
-    (tie.spec
-    array-copy-out-h
-    array-copy-out-p
-    sub-read-hdlr
-    part-read-hdlr-start
-    part-read-hdlr-end
-    add-read-hdlr
-    read-hdlr-requires
-    enum-known-t
-    enum-told
-    sub-read-pitm
-    part-read-pitm-start
-    part-read-pitm-end
-    add-read-pitm
-    read-pitm-requires
-    enum-known-q
-    enum-known-q-2
-    read-iinf-requires
-    returns
-    returns-2
-    same-length
+    tie.close (tie.spec (search needs) (search needs) sub-read-hdlr part-read-hdlr-start part-read-hdlr-end
+    add-read-hdlr (search needs) (search needs) (search needs) sub-read-pitm part-read-pitm-start part-read-pitm-end
+    add-read-pitm (search needs) (search needs) (search needs) read-iinf-requires returns returns-2 (search needs)
     returns-3)

@@ -1,24 +1,11 @@
 -- `reading::read_head` meets its contract. Assumes nothing.
 use mathlib.Core.Path.{sym, _∙_}
 use native.Mathlib.Omega.{arith}
-use Rattle.reading.proofs.TableLaws.{kept-same}
+use Rattle.records.proofs.KeptLaws.{kept-same}
 use Rattle.reading.proofs.TopStage.{meta-refused-left, meta-room, meta-length, meta-left}
 use borrow.Author.Needs.{needs}
 use Rattle.reading.proofs.read_head.Statement.{statement}
 use Rattle.reading.proofs.read_head.Tie as tie
-use Rattle.reading.proofs.read_head.Reads as reads
-use Rattle.reading.proofs.read_head.Lts as lts
-use Rattle.boxes.proofs.find_meta.Reads as find-meta-reads
-use Rattle.reading.proofs.read_meta.Reads as read-meta-reads
-
-find-meta-requires : tie.Need-find-meta-requires
-find-meta-requires c κs = search needs
-
-enum-known-m : tie.Need-enum-known-m
-enum-known-m c = search needs
-
-enum-known-m-2 : tie.Need-enum-known-m-2
-enum-known-m-2 c = search needs
 
 sub-read-meta : tie.Need-sub-read-meta
 sub-read-meta c = let k = c .before .before .before .before .before .before in let a = k .args in meta-room (a .total) (a .head .now) (k .pre .0) (k .pre .1) _ _ _ (sym (c .before .before .before .find-meta .ensures) ∙ c .before .m2 .given .1) .order
@@ -35,23 +22,10 @@ read-meta-requires c κs = let k = c .before .before .before .before .before .be
 returns : tie.Need-returns
 returns c = let k = c .before .before .before .before .before .before in let a = k .args in (λ x w. meta-refused-left (a .total) (a .head .now) (k .pre .0) (k .pre .1) _ x _ (sym (c .before .before .before .find-meta .ensures) ∙ c .before .m .given .1), kept-same _)
 
-same-length : tie.Need-same-length
-same-length c = search needs
-
 returns-2 : tie.Need-returns-2
 returns-2 c = let k = c .before .before .before .before .before .before .before .before .before .before .before in let a = k .args in (λ x w. meta-left (a .total) (a .head .now) (k .pre .0) (k .pre .1) _ _ _ (sym (c .before .before .before .before .before .before .before .before .find-meta .ensures) ∙ c .before .before .before .before .before .before .m2 .given .1) _ x _ (c .before .before .read-meta .ensures .0 x w), c .before .before .read-meta .ensures .1)
 
 pub read-head-spec : {M : Type 1} → statement M
 read-head-spec =
-    tie.close
-    (tie.spec
-    find-meta-requires
-    enum-known-m
-    enum-known-m-2
-    sub-read-meta
-    part-read-meta-start
-    part-read-meta-end
-    read-meta-requires
-    returns
-    same-length
-    returns-2)
+    tie.close (tie.spec (search needs) (search needs) (search needs) sub-read-meta part-read-meta-start
+    part-read-meta-end read-meta-requires returns (search needs) returns-2)

@@ -2,19 +2,11 @@
 use borrow.Author.Needs.{needs}
 use native.Mathlib.Omega.{arith}
 use mathlib.Core.Path.{refl, sym, _∙_}
+use Rattle.records.proofs.KeptLaws.{kept-on}
 use Rattle.reading.proofs.StageLaws.{after-same}
-use Rattle.reading.proofs.TableLaws.{kept-on}
 use Rattle.reading.proofs.NextLaws.{iloc-within, unplaced, iloc-gone, iloc-on}
 use Rattle.reading.proofs.read_iloc.Statement.{statement}
 use Rattle.reading.proofs.read_iloc.Tie as tie
-use Rattle.reading.proofs.read_iloc.Reads as reads
-use Rattle.reading.proofs.read_iloc.Lts as lts
-use Rattle.locations.proofs.read_locations.Reads as read-locations-reads
-use Rattle.reading.proofs.idat_at.Reads as idat-at-reads
-use Rattle.reading.proofs.read_iprp.Reads as read-iprp-reads
-
-array-copy-out-l : tie.Need-array-copy-out-l
-array-copy-out-l c = search needs
 
 idat-at-requires : tie.Need-idat-at-requires
 idat-at-requires c κs = (c .before .before .before .args .s .now, c .before .before .before .pre .0, c .before .before .before .pre .1)
@@ -34,42 +26,17 @@ add-read-locations c = let h = iloc-within (c .before .before .before .before .b
 read-locations-requires : tie.Need-read-locations-requires
 read-locations-requires c κs = let k = c .before .before .before .before .before .before .pre .3 .2 .ready in (c .before .before .before .before .before .before .pre .2, omega (arith, k .count, k .bounded .few-items), unplaced (c .before .before .before .before .before .before .args .s .now) (c .before .before .before .before .before .before .args .at) _ (c .before .before .before .before .before .before .pre .0) (c .before .before .before .before .before .before .args .n) (c .before .before .before .before .before .before .pre .3 .0) (c .before .before .before .before .before .before .pre .3 .1) _ (c .before .before .before .before .before .before .pre .3 .2))
 
-enum-known-t : tie.Need-enum-known-t
-enum-known-t c = search needs
-
-enum-known-t-2 : tie.Need-enum-known-t-2
-enum-known-t-2 c = search needs
-
 read-iprp-requires : tie.Need-read-iprp-requires
 read-iprp-requires c κs = let o = iloc-on (c .before .before .before .before .before .before .before .before .before .before .before .before .before .args .s .now) (c .before .before .before .before .before .before .before .before .before .before .before .before .before .args .at) _ (c .before .before .before .before .before .before .before .before .before .before .before .before .before .pre .0) (c .before .before .before .before .before .before .before .before .before .before .before .before .before .args .n) (c .before .before .before .before .before .before .before .before .before .before .before .before .before .pre .3 .0) (c .before .before .before .before .before .before .before .before .before .before .before .before .before .pre .3 .1) _ (c .before .before .before .before .before .before .before .before .before .before .before .before .before .pre .3 .2) _ refl _ (sym (c .before .before .before .before .before .before .read-locations .ensures .0) ∙ c .before .before .t2 .given .1) _ (c .before .before .before .before .before .before .before .before .before .idat-at .ensures _ (c .before .before .before .before .before .before .before .before .before .before .before .before .before .pre .0)) _ (c .before .before .before .before .before .before .read-locations .ensures .1) 0 in (c .before .before .before .before .before .before .before .before .before .before .before .before .before .pre .0, c .before .before .before .before .before .before .before .before .before .before .before .before .before .pre .1, omega (arith, c .before .before .before .before .before .before .read-locations .ensures .1 .kept .same-length, c .before .before .before .before .before .before .before .before .before .before .before .before .before .pre .2), ((c .before .before .before .before .before .before .before .before .before .before .before .before .before .pre .3 .0), o .0, (c .before .before .before .before .before .before .before .before .before .before .before .before .before .pre .3 .1), o .1, o .2))
 
-same-length : tie.Need-same-length
-same-length c = search needs
-
 returns : tie.Need-returns
 returns c = ((λ is x b. iloc-gone (c .before .before .before .before .before .before .before .before .before .before .before .before .args .s .now) (c .before .before .before .before .before .before .before .before .before .before .before .before .args .at) _ (c .before .before .before .before .before .before .before .before .before .before .before .before .pre .0) (c .before .before .before .before .before .before .before .before .before .before .before .before .args .n) is x _ b _ refl (c .before .before .before .before .before .before .before .before .before .before .before .before .args .total) (c .before .before .before .before .before .before .before .before .before .before .before .before .args .primary .0) _ (sym (c .before .before .before .before .before .read-locations .ensures .0) ∙ c .before .t .given .1) _), c .before .before .before .before .before .read-locations .ensures .1 .kept)
-
-same-length-2 : tie.Need-same-length-2
-same-length-2 c = search needs
 
 returns-2 : tie.Need-returns-2
 returns-2 c = ((λ is x b. let o = iloc-on (c .before .before .before .before .before .before .before .before .before .before .before .before .before .before .before .before .args .s .now) (c .before .before .before .before .before .before .before .before .before .before .before .before .before .before .before .before .args .at) _ (c .before .before .before .before .before .before .before .before .before .before .before .before .before .before .before .before .pre .0) (c .before .before .before .before .before .before .before .before .before .before .before .before .before .before .before .before .args .n) is x _ b _ refl _ (sym (c .before .before .before .before .before .before .before .before .before .read-locations .ensures .0) ∙ c .before .before .before .before .before .t2 .given .1) _ (c .before .before .before .before .before .before .before .before .before .before .before .before .idat-at .ensures _ (c .before .before .before .before .before .before .before .before .before .before .before .before .before .before .before .before .pre .0)) _ (c .before .before .before .before .before .before .before .before .before .read-locations .ensures .1) (c .before .before .before .before .before .before .before .before .before .before .before .before .before .before .before .before .args .primary .0) in after-same (c .before .before .before .before .before .before .before .before .before .before .before .before .before .before .before .before .args .s .now) (c .before .before .before .before .before .before .before .before .before .before .before .before .before .before .before .before .args .at) (c .before .before .before .before .before .before .before .before .before .before .before .before .before .before .before .before .args .total) _ _ _ x _ (o .3) (c .before .before .read-iprp .ensures .0 is (o .0) x (o .1) (o .2))), kept-on _ _ _ (c .before .before .before .before .before .before .before .before .before .read-locations .ensures .1 .kept) (c .before .before .read-iprp .ensures .1))
 
 pub read-iloc-spec : {M : Type 1} → statement M
 read-iloc-spec =
-    tie.close
-    (tie.spec
-    array-copy-out-l
-    idat-at-requires
-    sub-read-locations
-    part-read-locations-start
-    part-read-locations-end
-    add-read-locations
-    read-locations-requires
-    enum-known-t
-    enum-known-t-2
-    read-iprp-requires
-    same-length
-    returns
-    same-length-2
-    returns-2)
+    tie.close (tie.spec (search needs) idat-at-requires sub-read-locations part-read-locations-start
+    part-read-locations-end add-read-locations read-locations-requires (search needs) (search needs)
+    read-iprp-requires (search needs) returns (search needs) returns-2)

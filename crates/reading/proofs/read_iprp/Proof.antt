@@ -2,19 +2,12 @@
 use borrow.Author.Needs.{needs}
 use native.Mathlib.Omega.{arith}
 use mathlib.Core.Path.{refl, sym, _∙_}
-use Rattle.reading.proofs.TableLaws.{kept-on}
+use Rattle.records.proofs.KeptLaws.{kept-on}
 use Rattle.reading.proofs.StageLaws.{after-same}
 use Rattle.reading.proofs.LastLaws.{part-room}
 use Rattle.reading.proofs.NextLaws.{iprp-within, iprp-gone, iprp-on}
 use Rattle.reading.proofs.read_iprp.Statement.{statement}
 use Rattle.reading.proofs.read_iprp.Tie as tie
-use Rattle.reading.proofs.read_iprp.Reads as reads
-use Rattle.reading.proofs.read_iprp.Lts as lts
-use Rattle.properties.proofs.read_shown.Reads as read-shown-reads
-use Rattle.reading.proofs.read_last.Reads as read-last-reads
-
-array-copy-out-p : tie.Need-array-copy-out-p
-array-copy-out-p c = search needs
 
 sub-read-shown : tie.Need-sub-read-shown
 sub-read-shown c = let h = iprp-within (c .before .before .before .args .s .now) (c .before .before .before .args .at) _ (c .before .before .before .pre .0) (c .before .before .before .pre .1) in omega arith
@@ -34,42 +27,17 @@ add-read-shown-2 c = let h = iprp-within (c .before .before .before .before .arg
 read-shown-requires : tie.Need-read-shown-requires
 read-shown-requires c κs = let h = iprp-within (c .before .before .before .before .before .args .s .now) (c .before .before .before .before .before .args .at) _ (c .before .before .before .before .before .pre .0) (c .before .before .before .before .before .pre .1) in let k = c .before .before .before .before .before .pre .3 .3 .ready in (c .before .before .before .before .before .pre .2, omega (arith, k .count, k .bounded .few-items), part-room (c .before .before .before .before .before .args .s .now) (c .before .before .before .before .before .args .at) _ (c .before .before .before .before .before .pre .1) h)
 
-enum-known-t : tie.Need-enum-known-t
-enum-known-t c = search needs
-
-enum-known-t-2 : tie.Need-enum-known-t-2
-enum-known-t-2 c = search needs
-
 read-last-requires : tie.Need-read-last-requires
 read-last-requires c κs = let o = iprp-on (c .before .before .before .before .before .before .before .before .before .before .before .before .args .s .now) (c .before .before .before .before .before .before .before .before .before .before .before .before .args .at) _ (c .before .before .before .before .before .before .before .before .before .before .before .before .pre .0) (c .before .before .before .before .before .before .before .before .before .before .before .before .args .n) (c .before .before .before .before .before .before .before .before .before .before .before .before .pre .3 .0) (c .before .before .before .before .before .before .before .before .before .before .before .before .pre .3 .1) (c .before .before .before .before .before .before .before .before .before .before .before .before .pre .3 .2) _ (c .before .before .before .before .before .before .before .before .before .before .before .before .pre .3 .3) _ refl _ _ (sym (c .before .before .before .before .before .before .read-shown .ensures .0) ∙ c .before .before .t2 .given .1) _ (c .before .before .before .before .before .before .read-shown .ensures .1) (c .before .before .before .before .before .before .before .before .before .before .before .before .args .extents) (c .before .before .before .before .before .before .before .before .before .before .before .before .pre .3 .4) 0 in (c .before .before .before .before .before .before .before .before .before .before .before .before .pre .0, c .before .before .before .before .before .before .before .before .before .before .before .before .pre .1, omega (arith, c .before .before .before .before .before .before .read-shown .ensures .1 .kept .same-length, c .before .before .before .before .before .before .before .before .before .before .before .before .pre .2), (_, (c .before .before .before .before .before .before .before .before .before .before .before .before .pre .3 .2), o .1))
 
-same-length : tie.Need-same-length
-same-length c = search needs
-
 returns : tie.Need-returns
 returns c = ((λ is ls x b e. iprp-gone (c .before .before .before .before .before .before .before .before .before .before .before .args .s .now) (c .before .before .before .before .before .before .before .before .before .before .before .args .at) _ (c .before .before .before .before .before .before .before .before .before .before .before .pre .0) (c .before .before .before .before .before .before .before .before .before .before .before .args .n) is ls x _ b _ refl (c .before .before .before .before .before .before .before .before .before .before .before .args .total) (c .before .before .before .before .before .before .before .before .before .before .before .args .primary .0) _ (sym (c .before .before .before .before .before .read-shown .ensures .0) ∙ c .before .t .given .1) _), c .before .before .before .before .before .read-shown .ensures .1 .kept)
-
-same-length-2 : tie.Need-same-length-2
-same-length-2 c = search needs
 
 returns-2 : tie.Need-returns-2
 returns-2 c = ((λ is ls x b e. let o = iprp-on (c .before .before .before .before .before .before .before .before .before .before .before .before .before .before .before .args .s .now) (c .before .before .before .before .before .before .before .before .before .before .before .before .before .before .before .args .at) _ (c .before .before .before .before .before .before .before .before .before .before .before .before .before .before .before .pre .0) (c .before .before .before .before .before .before .before .before .before .before .before .before .before .before .before .args .n) is ls x _ b _ refl _ _ (sym (c .before .before .before .before .before .before .before .before .before .read-shown .ensures .0) ∙ c .before .before .before .before .before .t2 .given .1) _ (c .before .before .before .before .before .before .before .before .before .read-shown .ensures .1) (c .before .before .before .before .before .before .before .before .before .before .before .before .before .before .before .args .extents) e (c .before .before .before .before .before .before .before .before .before .before .before .before .before .before .before .args .primary .0) in after-same (c .before .before .before .before .before .before .before .before .before .before .before .before .before .before .before .args .s .now) (c .before .before .before .before .before .before .before .before .before .before .before .before .before .before .before .args .at) (c .before .before .before .before .before .before .before .before .before .before .before .before .before .before .before .args .total) _ _ _ x _ (o .2) (c .before .before .read-last .ensures .0 _ x (o .1))), kept-on _ _ _ (c .before .before .before .before .before .before .before .before .before .read-shown .ensures .1 .kept) (c .before .before .read-last .ensures .1))
 
 pub read-iprp-spec : {M : Type 1} → statement M
 read-iprp-spec =
-    tie.close
-    (tie.spec
-    array-copy-out-p
-    sub-read-shown
-    part-read-shown-start
-    part-read-shown-end
-    add-read-shown
-    add-read-shown-2
-    read-shown-requires
-    enum-known-t
-    enum-known-t-2
-    read-last-requires
-    same-length
-    returns
-    same-length-2
-    returns-2)
+    tie.close (tie.spec (search needs) sub-read-shown part-read-shown-start part-read-shown-end add-read-shown
+    add-read-shown-2 read-shown-requires (search needs) (search needs) read-last-requires (search needs) returns
+    (search needs) returns-2)

@@ -1,29 +1,18 @@
 -- `reading::read_last` meets its contract. Assumes nothing.
 use borrow.Author.Needs.{needs}
 use native.Mathlib.Omega.{arith}
-use mathlib.Core.Path.{refl, sym, ap, _∙_}
-use Rattle.reading.proofs.TableLaws.{kept-on}
+use mathlib.Core.Path.{refl, sym, _∙_}
+use Rattle.records.proofs.KeptLaws.{kept-on}
 use Rattle.reading.proofs.ChainLaws.{ids-distinct, none-derived}
 use Rattle.reading.proofs.LastLaws.{iref-within, part-fits, head-kept, counts-few, last-none, last-gone, last-few, last-read}
 use Rattle.reading.proofs.read_last.Statement.{statement}
 use Rattle.reading.proofs.read_last.Tie as tie
-use Rattle.reading.proofs.read_last.Reads as reads
-use Rattle.reading.proofs.read_last.Lts as lts
-use Rattle.reading.proofs.found_idat.Reads as found-idat-reads
-use Rattle.reading.proofs.put_head.Reads as put-head-reads
-use Rattle.references.proofs.read_references.Reads as read-references-reads
-
-array-copy-out-r : tie.Need-array-copy-out-r
-array-copy-out-r c = search needs
 
 put-head-requires : tie.Need-put-head-requires
 put-head-requires c κs = let h = counts-few (c .before .before .before .before .before .args .s .now) (c .before .before .before .before .before .args .at) (c .before .before .before .before .before .args .c) (c .before .before .before .before .before .pre .3 .0) (c .before .before .before .before .before .pre .3 .1) (c .before .before .before .before .before .args .table .now) (c .before .before .before .before .before .pre .3 .2) in (c .before .before .before .before .before .pre .2, h .0, h .1, h .2, h .3, h .4)
 
 found-idat-requires : tie.Need-found-idat-requires
 found-idat-requires c κs = (c .before .before .before .before .before .before .before .before .args .s .now, c .before .before .before .before .before .before .before .before .pre .0, c .before .before .before .before .before .before .before .before .pre .1)
-
-same-length : tie.Need-same-length
-same-length c = search needs
 
 returns : tie.Need-returns
 returns c = ((λ f x l. last-none (c .before .before .before .before .before .before .before .before .before .args .s .now) (c .before .before .before .before .before .before .before .before .before .args .at) (c .before .before .before .before .before .before .before .before .before .args .total) (c .before .before .before .before .before .before .before .before .before .args .primary .0) _ (c .before .before .before .before .before .before .before .before .before .pre .0) (c .before .before .before .before .before .before .before .before .before .args .c) f x _ l (c .before .before .before .before .before .if1 .taken) _ (c .before .before .before .put-head .ensures) _ (c .found-idat .ensures _ (c .before .before .before .before .before .before .before .before .before .pre .0))), head-kept _ _ _ _ _ _ _ _ _ _ (c .before .before .before .put-head .ensures))
@@ -46,50 +35,21 @@ add-read-references-2 c = let h = iref-within (c .before .before .before .before
 read-references-requires : tie.Need-read-references-requires
 read-references-requires c κs = let h = iref-within (c .before .before .before .before .before .before .args .s .now) (c .before .before .before .before .before .before .args .at) _ (c .before .before .before .before .before .before .pre .0) (c .before .before .before .before .before .before .pre .1) (c .before .before .if1 .left) in let k = counts-few (c .before .before .before .before .before .before .args .s .now) (c .before .before .before .before .before .before .args .at) (c .before .before .before .before .before .before .args .c) (c .before .before .before .before .before .before .pre .3 .0) (c .before .before .before .before .before .before .pre .3 .1) (c .before .before .before .before .before .before .args .table .now) (c .before .before .before .before .before .before .pre .3 .2) in (((c .before .before .before .before .before .before .pre .2), k .0, part-fits (c .before .before .before .before .before .before .args .s .now) (c .before .before .before .before .before .before .args .at) _ (c .before .before .before .before .before .before .pre .1) h), (ids-distinct (c .before .before .before .before .before .before .args .s .now) (c .before .before .before .before .before .before .args .at) (c .before .before .before .before .before .before .args .c .items) (c .before .before .before .before .before .before .pre .3 .0) (c .before .before .before .before .before .before .pre .3 .1) (c .before .before .before .before .before .before .args .table .now) (c .before .before .before .before .before .before .pre .3 .2 .before), none-derived (c .before .before .before .before .before .before .args .s .now) (c .before .before .before .before .before .before .args .at) (c .before .before .before .before .before .before .args .c .items) (c .before .before .before .before .before .before .pre .3 .0) (c .before .before .before .before .before .before .pre .3 .1) (c .before .before .before .before .before .before .args .table .now) (c .before .before .before .before .before .before .pre .3 .2 .before) (c .before .before .before .before .before .before .pre .3 .2 .none)))
 
-enum-known-t : tie.Need-enum-known-t
-enum-known-t c = search needs
-
-enum-known-t-2 : tie.Need-enum-known-t-2
-enum-known-t-2 c = search needs
-
 put-head-requires-2 : tie.Need-put-head-requires-2
 put-head-requires-2 c κs = let h = counts-few (c .before .before .before .before .before .before .before .before .before .before .before .before .before .args .s .now) (c .before .before .before .before .before .before .before .before .before .before .before .before .before .args .at) (c .before .before .before .before .before .before .before .before .before .before .before .before .before .args .c) (c .before .before .before .before .before .before .before .before .before .before .before .before .before .pre .3 .0) (c .before .before .before .before .before .before .before .before .before .before .before .before .before .pre .3 .1) (c .before .before .before .before .before .before .before .before .before .before .before .before .before .args .table .now) (c .before .before .before .before .before .before .before .before .before .before .before .before .before .pre .3 .2) in let k = last-few (c .before .before .before .before .before .before .before .before .before .before .before .before .before .args .s .now) (c .before .before .before .before .before .before .before .before .before .before .before .before .before .args .at) (c .before .before .before .before .before .before .before .before .before .before .before .before .before .args .total) (c .before .before .before .before .before .before .before .before .before .before .before .before .before .args .primary .0) _ (c .before .before .before .before .before .before .before .before .before .before .before .before .before .pre .0) (c .before .before .before .before .before .before .before .before .before .before .before .before .before .args .c) (c .before .before .before .before .before .before .before .before .before .before .before .before .before .pre .3 .0) (c .before .before .before .before .before .before .before .before .before .before .before .before .before .pre .3 .1) _ (c .before .before .before .before .before .before .before .before .before .before .before .before .before .pre .3 .2) (c .before .before .before .before .before .before .before .before .before .if1 .left) _ refl _ (sym (c .before .before .before .before .before .before .read-references .ensures .0) ∙ c .before .before .t2 .given .1) in (omega (arith, c .before .before .before .before .before .before .read-references .ensures .1 .kept .same-length, c .before .before .before .before .before .before .before .before .before .before .before .before .before .pre .2), h .0, h .1, h .2, k, h .4)
 
 found-idat-requires-2 : tie.Need-found-idat-requires-2
 found-idat-requires-2 c κs = (c .before .before .before .before .before .before .before .before .before .before .before .before .before .before .before .before .args .s .now, c .before .before .before .before .before .before .before .before .before .before .before .before .before .before .before .before .pre .0, c .before .before .before .before .before .before .before .before .before .before .before .before .before .before .before .before .pre .1)
 
-same-length-2 : tie.Need-same-length-2
-same-length-2 c = search needs
-
 returns-2 : tie.Need-returns-2
 returns-2 c = ((λ f x l. last-gone (c .before .before .before .before .before .before .before .before .before .before .before .before .args .s .now) (c .before .before .before .before .before .before .before .before .before .before .before .before .args .at) (c .before .before .before .before .before .before .before .before .before .before .before .before .args .total) (c .before .before .before .before .before .before .before .before .before .before .before .before .args .primary .0) _ (c .before .before .before .before .before .before .before .before .before .before .before .before .pre .0) (c .before .before .before .before .before .before .before .before .before .before .before .before .args .c) f x _ l (c .before .before .before .before .before .before .before .before .if1 .left) _ refl _ (sym (c .before .before .before .before .before .read-references .ensures .0) ∙ c .before .t .given .1) _), c .before .before .before .before .before .read-references .ensures .1 .kept)
-
-same-length-3 : tie.Need-same-length-3
-same-length-3 c = search needs
 
 returns-3 : tie.Need-returns-3
 returns-3 c = ((λ f x l. last-read (c .before .before .before .before .before .before .before .before .before .before .before .before .before .before .before .before .before .args .s .now) (c .before .before .before .before .before .before .before .before .before .before .before .before .before .before .before .before .before .args .at) (c .before .before .before .before .before .before .before .before .before .before .before .before .before .before .before .before .before .args .total) (c .before .before .before .before .before .before .before .before .before .before .before .before .before .before .before .before .before .args .primary .0) _ (c .before .before .before .before .before .before .before .before .before .before .before .before .before .before .before .before .before .pre .0) (c .before .before .before .before .before .before .before .before .before .before .before .before .before .before .before .before .before .args .c) f x _ l (c .before .before .before .before .before .before .before .before .before .before .before .before .before .if1 .left) _ refl _ (sym (c .before .before .before .before .before .before .before .before .before .before .read-references .ensures .0) ∙ c .before .before .before .before .before .before .t2 .given .1) _ _ (c .before .before .before .before .before .before .before .before .before .before .read-references .ensures .1) (c .before .before .before .put-head2 .ensures) _ (c .found-idat2 .ensures _ (c .before .before .before .before .before .before .before .before .before .before .before .before .before .before .before .before .before .pre .0))), kept-on _ _ _ (c .before .before .before .before .before .before .before .before .before .before .read-references .ensures .1 .kept) (head-kept _ _ _ _ _ _ _ _ _ _ (c .before .before .before .put-head2 .ensures)))
 
 pub read-last-spec : {M : Type 1} → statement M
 read-last-spec =
-    tie.close
-    (tie.spec
-    array-copy-out-r
-    put-head-requires
-    found-idat-requires
-    same-length
-    returns
-    sub-read-references
-    part-read-references-start
-    part-read-references-end
-    add-read-references
-    add-read-references-2
-    read-references-requires
-    enum-known-t
-    enum-known-t-2
-    put-head-requires-2
-    found-idat-requires-2
-    same-length-2
-    returns-2
-    same-length-3
-    returns-3)
+    tie.close (tie.spec (search needs) put-head-requires found-idat-requires (search needs) returns sub-read-references
+    part-read-references-start part-read-references-end add-read-references add-read-references-2
+    read-references-requires (search needs) (search needs) put-head-requires-2 found-idat-requires-2 (search needs)
+    returns-2 (search needs) returns-3)

@@ -1,79 +1,33 @@
 -- `references::put_counted` meets its contract. Assumes nothing.
 use mathlib.Core.Path.{refl, sym, _∙_}
 use Rattle.fields.proofs.FieldLaws.{be-below}
-use Rattle.references.proofs.KeptLaws.{kept-same}
+use Rattle.records.proofs.KeptLaws.{kept-same}
 use Rattle.references.proofs.PutLaws.{put-count-cut, pass-refused, pass-done, as-dimg, dimg-fresh, never-both}
 use native.Mathlib.Omega.{arith}
 use borrow.Author.Needs.{needs}
 use Rattle.references.proofs.put_counted.Statement.{statement}
 use Rattle.references.proofs.put_counted.Tie as tie
-use Rattle.references.proofs.put_counted.Reads as reads
-use Rattle.references.proofs.put_counted.Lts as lts
-use Rattle.fields.proofs.be16.Reads as be16-reads
-use Rattle.references.proofs.put_derivation.Reads as put-derivation-reads
-use Rattle.references.proofs.put_targets.Reads as put-targets-reads
-
-add-if1 : tie.Need-add-if1
-add-if1 c = search needs
 
 returns : tie.Need-returns
 returns c = ((kept-same _, λ y. refl), λ before q fresh. put-count-cut (c .before .before .before .args .table .now) (c .before .before .before .args .n) (c .before .before .before .args .w) (c .before .before .before .args .place) (c .before .before .before .args .used) (c .before .before .before .args .s .now) (c .before .before .before .args .derives) before q (c .before .before .before .pre .1 .0) _ (c .before .before .before .pre .1 .1) (c .before .before .before .pre .1 .2) fresh (c .if1 .taken) _)
 
-be16-requires : tie.Need-be16-requires
-be16-requires c κs = search needs
-
-cast-k : tie.Need-cast-k
-cast-k c = search needs
-
 put-derivation-requires : tie.Need-put-derivation-requires
 put-derivation-requires c κs = ((c .before .before .before .before .before .before .pre .0), (c .before .before .before .if1 .left, c .before .before .before .before .before .before .pre .1 .1, c .before .before .before .before .before .before .pre .1 .2, c .before .before .be16 .ensures, omega (arith, c .before .before .be16 .ensures, be-below (c .before .before .before .before .before .before .args .s .now) (c .before .before .before .before .before .before .args .w) 2 (c .before .before .before .before .before .shared-slice-known .given))))
-
-same-length : tie.Need-same-length
-same-length c = search needs
 
 returns-2 : tie.Need-returns-2
 returns-2 c = ((c .before .before .put-derivation .ensures .0, λ y. never-both _ (c .before .before .before .before .if2 .taken) y), λ before q fresh. as-dimg _ _ _ _ _ _ before _ _ _ (c .before .before .before .before .if2 .taken) (c .before .before .put-derivation .ensures .1 before q (dimg-fresh _ _ (c .before .before .before .before .if2 .taken) fresh)))
 
-add-put-targets : tie.Need-add-put-targets
-add-put-targets c = search needs
-
 put-targets-requires : tie.Need-put-targets-requires
 put-targets-requires c κs = (c .before .before .before .before .before .before .pre .0 .0, c .before .before .before .before .before .before .pre .0 .1, c .before .before .before .if1 .left, c .before .before .before .before .before .before .pre .0 .2, c .before .before .before .before .before .before .pre .0 .3, λ y. never-both _ y refl)
 
-enum-known-t : tie.Need-enum-known-t
-enum-known-t c = search needs
-
-enum-told : tie.Need-enum-told
-enum-told c = search needs
-
-same-length-2 : tie.Need-same-length-2
-same-length-2 c = search needs
-
 returns-3 : tie.Need-returns-3
 returns-3 c = ((c .before .before .before .before .before .put-targets .ensures .1 .kept, λ y. c .before .before .before .before .before .put-targets .ensures .1 .other refl), λ before q fresh. pass-refused (c .before .before .before .before .before .before .before .before .before .before .before .before .args .table .now) (c .before .before .before .before .before .before .before .before .before .before .before .before .args .n) (c .before .before .before .before .before .before .before .before .before .before .before .before .args .w) (c .before .before .before .before .before .before .before .before .before .before .before .before .args .place) (c .before .before .before .before .before .before .before .before .before .before .before .before .args .used) (c .before .before .before .before .before .before .before .before .before .before .before .before .args .s .now) (c .before .before .before .before .before .before .before .before .before .before .before .before .args .derives) before q (c .before .before .before .before .before .before .before .before .before .before .before .before .pre .1 .0) _ (c .before .before .before .before .before .before .before .before .before .before .before .before .pre .1 .1) (c .before .before .before .before .before .before .before .before .before .before .before .before .pre .1 .2) fresh (c .before .before .before .before .before .before .before .before .before .if1 .left) _ (c .before .before .before .before .before .before .before .before .be16 .ensures) (c .before .before .before .before .before .before .before .if2 .left) _ (sym (c .before .before .before .before .before .put-targets .ensures .0) ∙ c .before .t .given .1) _)
-
-same-length-3 : tie.Need-same-length-3
-same-length-3 c = search needs
 
 returns-4 : tie.Need-returns-4
 returns-4 c = ((c .before .before .before .before .put-targets .ensures .1 .kept, λ y. c .before .before .before .before .put-targets .ensures .1 .other refl), λ before q fresh. pass-done (c .before .before .before .before .before .before .before .before .before .before .before .args .table .now) (c .before .before .before .before .before .before .before .before .before .before .before .args .n) (c .before .before .before .before .before .before .before .before .before .before .before .args .w) (c .before .before .before .before .before .before .before .before .before .before .before .args .place) (c .before .before .before .before .before .before .before .before .before .before .before .args .used) (c .before .before .before .before .before .before .before .before .before .before .before .args .s .now) (c .before .before .before .before .before .before .before .before .before .before .before .args .derives) before q (c .before .before .before .before .before .before .before .before .before .before .before .pre .1 .0) _ (c .before .before .before .before .before .before .before .before .before .before .before .pre .1 .1) (c .before .before .before .before .before .before .before .before .before .before .before .pre .1 .2) fresh (c .before .before .before .before .before .before .before .before .if1 .left) _ (c .before .before .before .before .before .before .before .be16 .ensures) (c .before .before .before .before .before .before .if2 .left) (sym (c .before .before .before .before .put-targets .ensures .0) ∙ c .enum-told .given .1) _)
 
 pub put-counted-spec : {M : Type 1} → statement M
 put-counted-spec =
-    tie.close
-    (tie.spec
-    add-if1
-    returns
-    be16-requires
-    cast-k
-    put-derivation-requires
-    same-length
-    returns-2
-    add-put-targets
-    put-targets-requires
-    enum-known-t
-    enum-told
-    same-length-2
-    returns-3
-    same-length-3
-    returns-4)
+    tie.close (tie.spec (search needs) returns (λ c κs. search needs) (search needs) put-derivation-requires (search needs)
+    returns-2 (search needs) put-targets-requires (search needs) (search needs) (search needs) returns-3
+    (search needs) returns-4)

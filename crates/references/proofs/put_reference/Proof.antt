@@ -1,40 +1,19 @@
 -- `references::put_reference` meets its contract. Assumes nothing.
 use mathlib.Core.Path.{refl, sym, _∙_, subst}
 use Rattle.records.specs.Rows.{FoundIs}
-use Rattle.references.proofs.IdLaws.{found-row}
-use Rattle.references.proofs.KeptLaws.{kept-same}
+use Rattle.records.proofs.IdLaws.{found-row}
+use Rattle.records.proofs.KeptLaws.{kept-same}
 use Rattle.references.proofs.PutLaws.{put-source-cut, put-source-unlisted, put-source-twice, source-fresh}
 use native.Mathlib.Omega.{arith}
 use borrow.Author.Needs.{needs}
 use Rattle.references.proofs.put_reference.Statement.{statement}
 use Rattle.references.proofs.put_reference.Tie as tie
-use Rattle.references.proofs.put_reference.Reads as reads
-use Rattle.references.proofs.put_reference.Lts as lts
-use Rattle.fields.proofs.be_id.Reads as be-id-reads
-use Rattle.records.proofs.row_of.Reads as row-of-reads
-use Rattle.references.proofs.is_second.Reads as is-second-reads
-use Rattle.references.proofs.put_counted.Reads as put-counted-reads
 
 returns : tie.Need-returns
 returns c = ((kept-same _, λ y. refl), λ before q marked. put-source-cut (c .before .before .before .args .table .now) (c .before .before .before .args .n) (c .before .before .before .args .w) (c .before .before .before .args .place) (c .before .before .before .args .used) (c .before .before .before .args .s .now) (c .before .before .before .args .derives) before q (c .if1 .taken) _)
 
-be-id-requires : tie.Need-be-id-requires
-be-id-requires c κs = search needs
-
-row-of-requires : tie.Need-row-of-requires
-row-of-requires c κs = search needs
-
-enum-told : tie.Need-enum-told
-enum-told c = search needs
-
-enum-known-f : tie.Need-enum-known-f
-enum-known-f c = search needs
-
 is-second-requires : tie.Need-is-second-requires
 is-second-requires c κs = (c .before .before .before .before .before .before .before .before .before .before .pre .0, omega (arith, (found-row (c .before .before .before .before .before .before .before .before .before .before .args .table .now) (c .before .before .before .before .before .before .before .before .before .before .args .n) _ _ _ (c .before .before .before .before .row-of .ensures) (c .before .before .f .given .1)) .0, c .before .before .before .before .before .before .before .before .before .before .pre .1))
-
-same-length : tie.Need-same-length
-same-length c = search needs
 
 returns-2 : tie.Need-returns-2
 returns-2 c = ((kept-same _, λ y. refl), λ before q marked. put-source-twice (c .before .before .before .before .before .before .before .before .before .before .before .before .args .table .now) (c .before .before .before .before .before .before .before .before .before .before .before .before .args .n) (c .before .before .before .before .before .before .before .before .before .before .before .before .args .w) (c .before .before .before .before .before .before .before .before .before .before .before .before .args .place) (c .before .before .before .before .before .before .before .before .before .before .before .before .args .used) (c .before .before .before .before .before .before .before .before .before .before .before .before .args .s .now) (c .before .before .before .before .before .before .before .before .before .before .before .before .args .derives) before q (c .before .before .before .before .before .before .before .before .before .if1 .left) _ ((found-row (c .before .before .before .before .before .before .before .before .before .before .before .before .args .table .now) (c .before .before .before .before .before .before .before .before .before .before .before .before .args .n) _ _ _ (c .before .before .before .before .before .before .row-of .ensures) (c .before .before .before .before .f .given .1)) .0) ((found-row (c .before .before .before .before .before .before .before .before .before .before .before .before .args .table .now) (c .before .before .before .before .before .before .before .before .before .before .before .before .args .n) _ _ _ (c .before .before .before .before .before .before .row-of .ensures) (c .before .before .before .before .f .given .1)) .1 ∙ c .before .before .before .before .before .before .before .be-id .ensures) marked (sym (c .before .is-second .ensures) ∙ c .if2 .taken) _)
@@ -42,32 +21,13 @@ returns-2 c = ((kept-same _, λ y. refl), λ before q marked. put-source-twice (
 put-counted-requires : tie.Need-put-counted-requires
 put-counted-requires c κs = (c .before .before .before .before .before .before .before .before .before .before .before .before .before .pre, (c .before .before .before .before .before .before .before .before .before .before .if1 .left, (found-row (c .before .before .before .before .before .before .before .before .before .before .before .before .before .args .table .now) (c .before .before .before .before .before .before .before .before .before .before .before .before .before .args .n) _ _ _ (c .before .before .before .before .before .before .before .row-of .ensures) (c .before .before .before .before .before .f .given .1)) .0, (found-row (c .before .before .before .before .before .before .before .before .before .before .before .before .before .args .table .now) (c .before .before .before .before .before .before .before .before .before .before .before .before .before .args .n) _ _ _ (c .before .before .before .before .before .before .before .row-of .ensures) (c .before .before .before .before .before .f .given .1)) .1 ∙ c .before .before .before .before .before .before .before .before .be-id .ensures))
 
-same-length-2 : tie.Need-same-length-2
-same-length-2 c = search needs
-
 returns-3 : tie.Need-returns-3
 returns-3 c = ((kept-same _, λ y. refl), λ before q marked. put-source-unlisted (c .before .before .before .before .before .before .before .before .args .table .now) (c .before .before .before .before .before .before .before .before .args .n) (c .before .before .before .before .before .before .before .before .args .w) (c .before .before .before .before .before .before .before .before .args .place) (c .before .before .before .before .before .before .before .before .args .used) (c .before .before .before .before .before .before .before .before .args .s .now) (c .before .before .before .before .before .before .before .before .args .derives) before q (c .before .before .before .before .before .if1 .left) _ (c .before .before .before .be-id .ensures) (subst (FoundIs _ _ _) (c .enum-told .given .1) (c .before .before .row-of .ensures)) _)
-
-same-length-3 : tie.Need-same-length-3
-same-length-3 c = search needs
 
 returns-4 : tie.Need-returns-4
 returns-4 c = (c .before .before .put-counted .ensures .0, λ before q marked. c .before .before .put-counted .ensures .1 before q (source-fresh (c .before .before .before .before .before .before .before .before .before .before .before .before .before .before .before .before .args .table .now) (c .before .before .before .before .before .before .before .before .before .before .before .before .before .before .before .before .args .n) (c .before .before .before .before .before .before .before .before .before .before .before .before .before .before .before .before .args .w) (c .before .before .before .before .before .before .before .before .before .before .before .before .before .before .before .before .args .place) (c .before .before .before .before .before .before .before .before .before .before .before .before .before .before .before .before .args .used) (c .before .before .before .before .before .before .before .before .before .before .before .before .before .before .before .before .args .s .now) (c .before .before .before .before .before .before .before .before .before .before .before .before .before .before .before .before .args .derives) before q (c .before .before .before .before .before .before .before .before .before .before .before .before .before .if1 .left) _ ((found-row (c .before .before .before .before .before .before .before .before .before .before .before .before .before .before .before .before .args .table .now) (c .before .before .before .before .before .before .before .before .before .before .before .before .before .before .before .before .args .n) _ _ _ (c .before .before .before .before .before .before .before .before .before .before .row-of .ensures) (c .before .before .before .before .before .before .before .before .f .given .1)) .0) ((found-row (c .before .before .before .before .before .before .before .before .before .before .before .before .before .before .before .before .args .table .now) (c .before .before .before .before .before .before .before .before .before .before .before .before .before .before .before .before .args .n) _ _ _ (c .before .before .before .before .before .before .before .before .before .before .row-of .ensures) (c .before .before .before .before .before .before .before .before .f .given .1)) .1 ∙ c .before .before .before .before .before .before .before .before .before .before .before .be-id .ensures) marked (sym (c .before .before .before .before .before .is-second .ensures) ∙ c .before .before .before .before .if2 .left)))
 
 pub put-reference-spec : {M : Type 1} → statement M
 put-reference-spec =
-    tie.close
-    (tie.spec
-    returns
-    be-id-requires
-    row-of-requires
-    enum-told
-    enum-known-f
-    is-second-requires
-    same-length
-    returns-2
-    put-counted-requires
-    same-length-2
-    returns-3
-    same-length-3
-    returns-4)
+    tie.close (tie.spec returns (λ c κs. search needs) (λ c κs. search needs) (search needs) (search needs) is-second-requires
+    (search needs) returns-2 put-counted-requires (search needs) returns-3 (search needs) returns-4)

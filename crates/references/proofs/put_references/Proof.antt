@@ -7,11 +7,6 @@ use native.Mathlib.Omega.{arith}
 use borrow.Author.Needs.{needs}
 use Rattle.references.proofs.put_references.Statement.{statement}
 use Rattle.references.proofs.put_references.Tie as tie
-use Rattle.references.proofs.put_references.Reads as reads
-use Rattle.references.proofs.put_references.Lts as lts
-use Rattle.boxes.proofs.child_at.Reads as child-at-reads
-use Rattle.references.proofs.is_dimg.Reads as is-dimg-reads
-use Rattle.references.proofs.put_reference.Reads as put-reference-reads
 
 abbrev Inv-loop : tie.InvT-loop
 Inv-loop s w place base table₀ n at₀ used₀ table at used = So s w place base n table₀ table at used
@@ -22,14 +17,8 @@ abbrev μ-loop : tie.MeasureT-loop
 loop-holds : tie.Need-loop-holds Inv-loop μ-loop
 loop-holds c = begin _ _ _ _ _ _ (c .before .before .pre .0 .3) (c .before .before .pre .1 .1)
 
-child-at-requires : tie.Need-child-at-requires Inv-loop μ-loop
-child-at-requires c κs = search needs
-
 add-here : tie.Need-add-here Inv-loop μ-loop
 add-here c = omega (arith, c .before .loop .inv .here, c .before .before .before .before .pre .0 .2)
-
-enum-known-c : tie.Need-enum-known-c Inv-loop μ-loop
-enum-known-c c = search needs
 
 sub-put-reference : tie.Need-sub-put-reference Inv-loop μ-loop
 sub-put-reference c = let w = further _ _ _ _ _ _ _ _ _ (c .before .before .before .before .loop .inv) _ _ _ (sym (c .before .before .before .child-at .ensures) ∙ c .before .c .given .1) in omega arith
@@ -40,14 +29,8 @@ part-put-reference-start c = let w = further _ _ _ _ _ _ _ _ _ (c .before .befor
 part-put-reference-end : tie.Need-part-put-reference-end Inv-loop μ-loop
 part-put-reference-end c = let w = further _ _ _ _ _ _ _ _ _ (c .before .before .before .before .loop .inv) _ _ _ (sym (c .before .before .before .child-at .ensures) ∙ c .before .c .given .1) in omega arith
 
-is-dimg-requires : tie.Need-is-dimg-requires Inv-loop μ-loop
-is-dimg-requires c κs = search needs
-
 put-reference-requires : tie.Need-put-reference-requires Inv-loop μ-loop
 put-reference-requires c κs = (omega (arith, c .before .before .before .before .before .before .before .loop .inv .kept .same-length, c .before .before .before .before .before .before .before .before .before .before .pre .0 .0), c .before .before .before .before .before .before .before .before .before .before .pre .0 .1, c .before .before .before .before .before .before .before .before .before .before .pre .0 .4, c .before .before .before .before .before .before .before .loop .inv .few)
-
-enum-known-r : tie.Need-enum-known-r Inv-loop μ-loop
-enum-known-r c = search needs
 
 same-length : tie.Need-same-length Inv-loop μ-loop
 same-length c = c .before .before .before .before .before .put-reference .ensures .0 .0 .same-length ∙ c .before .before .before .before .before .before .before .before .before .before .before .before .before .loop .inv .kept .same-length
@@ -55,17 +38,11 @@ same-length c = c .before .before .before .before .before .put-reference .ensure
 returns : tie.Need-returns Inv-loop μ-loop
 returns c = refused _ _ _ _ _ _ _ _ _ (c .before .before .before .before .before .before .before .before .before .before .before .before .before .loop .inv) _ _ _ (sym (c .before .before .before .before .before .before .before .before .before .before .before .before .child-at .ensures) ∙ c .before .before .before .before .before .before .before .before .before .before .c .given .1) _ _ (c .before .before .before .before .before .before .before .is-dimg .ensures) (c .before .before .before .before .before .put-reference .ensures .0 .0) (c .before .before .before .before .before .put-reference .ensures .0 .1) _ (c .before .before .before .before .before .put-reference .ensures .1 (c .before .before .before .before .before .before .before .before .before .before .before .before .before .loop .inv .before) (c .before .before .before .before .before .before .before .before .before .before .before .before .before .loop .inv .count) (c .before .before .before .before .before .before .before .before .before .before .before .before .before .loop .inv .marked)) _ (c .before .r .given .1)
 
-enum-known-r-2 : tie.Need-enum-known-r-2 Inv-loop μ-loop
-enum-known-r-2 c = search needs
-
 loop-less : tie.Need-loop-less Inv-loop μ-loop
 loop-less c = let w = further _ _ _ _ _ _ _ _ _ (c .before .before .before .before .before .before .before .before .before .before .before .before .before .loop .inv) _ _ _ (sym (c .before .before .before .before .before .before .before .before .before .before .before .before .child-at .ensures) ∙ c .before .before .before .before .before .before .before .before .before .before .c .given .1) in omega arith
 
 loop-again : tie.Need-loop-again Inv-loop μ-loop
 loop-again c = grown _ _ _ _ _ _ _ _ _ (c .before .before .before .before .before .before .before .before .before .before .before .before .before .loop .inv) _ _ _ (sym (c .before .before .before .before .before .before .before .before .before .before .before .before .child-at .ensures) ∙ c .before .before .before .before .before .before .before .before .before .before .c .given .1) _ _ (c .before .before .before .before .before .before .before .is-dimg .ensures) (c .before .before .before .before .before .put-reference .ensures .0 .0) (c .before .before .before .before .before .put-reference .ensures .0 .1) _ (c .before .before .before .before .before .put-reference .ensures .1 (c .before .before .before .before .before .before .before .before .before .before .before .before .before .loop .inv .before) (c .before .before .before .before .before .before .before .before .before .before .before .before .before .loop .inv .count) (c .before .before .before .before .before .before .before .before .before .before .before .before .before .loop .inv .marked)) (c .before .before .before .before .before .before .before .before .before .before .before .before .before .before .before .before .pre .0 .1) (c .before .before .before .before .before .before .before .before .before .before .before .before .before .before .before .before .pre .0 .0) (c .before .before .before .before .before .before .before .before .before .before .before .before .before .before .before .before .pre .1 .0) _ (c .before .r2 .given .1)
-
-enum-told : tie.Need-enum-told Inv-loop μ-loop
-enum-told c = search needs
 
 same-length-2 : tie.Need-same-length-2 Inv-loop μ-loop
 same-length-2 c = c .before .before .before .loop .inv .kept .same-length
@@ -73,17 +50,11 @@ same-length-2 c = c .before .before .before .loop .inv .kept .same-length
 returns-2 : tie.Need-returns-2 Inv-loop μ-loop
 returns-2 c = at-bad _ _ _ _ _ _ _ _ _ (c .before .before .before .loop .inv) (sym (c .before .before .child-at .ensures) ∙ c .enum-told .given .1)
 
-enum-told-2 : tie.Need-enum-told-2 Inv-loop μ-loop
-enum-told-2 c = search needs
-
 same-length-3 : tie.Need-same-length-3 Inv-loop μ-loop
 same-length-3 c = c .before .before .before .loop .inv .kept .same-length
 
 returns-3 : tie.Need-returns-3 Inv-loop μ-loop
 returns-3 c = at-spare _ _ _ _ _ _ _ _ _ (c .before .before .before .loop .inv) (sym (c .before .before .child-at .ensures) ∙ c .enum-told2 .given .1)
-
-enum-told-3 : tie.Need-enum-told-3 Inv-loop μ-loop
-enum-told-3 c = search needs
 
 same-length-4 : tie.Need-same-length-4 Inv-loop μ-loop
 same-length-4 c = c .before .before .before .loop .inv .kept .same-length
@@ -93,31 +64,7 @@ returns-4 c = at-end _ _ _ _ _ _ _ _ _ (c .before .before .before .loop .inv) (s
 
 pub put-references-spec : {M : Type 1} → statement M
 put-references-spec =
-    tie.close
-    (tie.spec
-    Inv-loop
-    μ-loop
-    loop-holds
-    child-at-requires
-    add-here
-    enum-known-c
-    sub-put-reference
-    part-put-reference-start
-    part-put-reference-end
-    is-dimg-requires
-    put-reference-requires
-    enum-known-r
-    same-length
-    returns
-    enum-known-r-2
-    loop-less
-    loop-again
-    enum-told
-    same-length-2
-    returns-2
-    enum-told-2
-    same-length-3
-    returns-3
-    enum-told-3
-    same-length-4
-    returns-4)
+    tie.close (tie.spec Inv-loop μ-loop loop-holds (search needs) add-here (search needs) sub-put-reference
+    part-put-reference-start part-put-reference-end (search needs) put-reference-requires (search needs) same-length
+    returns (search needs) loop-less loop-again (search needs) same-length-2 returns-2 (search needs) same-length-3
+    returns-3 (search needs) same-length-4 returns-4)

@@ -9,10 +9,6 @@ use native.Mathlib.Omega.{arith}
 use borrow.Author.Needs.{needs}
 use Rattle.references.proofs.put_targets.Statement.{statement}
 use Rattle.references.proofs.put_targets.Tie as tie
-use Rattle.references.proofs.put_targets.Reads as reads
-use Rattle.references.proofs.put_targets.Lts as lts
-use Rattle.fields.proofs.be_id.Reads as be-id-reads
-use Rattle.records.proofs.row_of.Reads as row-of-reads
 
 abbrev Inv-loop : tie.InvT-loop
 Inv-loop s from w k place table₀ n keep used at₀ hope₀ j₀ table at hope j = So s from w k place n keep used table₀ table at j
@@ -38,17 +34,11 @@ be-id-requires c κs = (omega (arith, c .before .before .loop .inv .here), c .be
 row-of-requires : tie.Need-row-of-requires Inv-loop μ-loop
 row-of-requires c κs = (c .before .before .before .before .before .before .before .pre .1, omega (arith, so-length _ _ _ _ _ _ _ _ _ (c .before .before .before .before .before .before .before .pre .1) (c .before .before .before .before .before .before .before .pre .4) (c .before .before .before .before .before .before .before .pre .5) _ _ _ (c .before .before .before .before .loop .inv), c .before .before .before .before .before .before .before .pre .0))
 
-enum-told : tie.Need-enum-told Inv-loop μ-loop
-enum-told c = search needs
-
 same-length-2 : tie.Need-same-length-2 Inv-loop μ-loop
 same-length-2 c = so-length _ _ _ _ _ _ _ _ _ (c .before .before .before .before .before .before .before .before .before .before .pre .1) (c .before .before .before .before .before .before .before .before .before .before .pre .4) (c .before .before .before .before .before .before .before .before .before .before .pre .5) _ _ _ (c .before .before .before .before .before .before .before .loop .inv)
 
 returns-2 : tie.Need-returns-2 Inv-loop μ-loop
 returns-2 c = unlisted _ _ _ _ _ _ _ _ _ (c .before .before .before .before .before .before .before .before .before .before .pre .1) (c .before .before .before .before .before .before .before .before .before .before .pre .4) (c .before .before .before .before .before .before .before .before .before .before .pre .5) _ _ _ (c .before .before .before .before .before .before .before .loop .inv) (c .before .before .before .before .before .before .loop-test .taken) (c .before .before .before .before .before .if1 .left) _ (c .before .before .before .before .be-id .ensures) (subst (FoundIs _ _ _) (c .enum-told .given .1) (c .before .before .row-of .ensures))
-
-enum-known-f : tie.Need-enum-known-f Inv-loop μ-loop
-enum-known-f c = search needs
 
 add-table : tie.Need-add-table Inv-loop μ-loop
 add-table c = omega (arith, c .before .before .before .before .before .before .before .before .before .before .before .before .pre .4)
@@ -67,12 +57,6 @@ add-hope c = let g : FoundIs (c .before .before .before .before .before .before 
 
 add-at : tie.Need-add-at Inv-loop μ-loop
 add-at c = omega (arith, c .before .before .before .before .before .before .before .before .before .loop .inv .here)
-
-add-j : tie.Need-add-j Inv-loop μ-loop
-add-j c = omega arith
-
-loop-less : tie.Need-loop-less Inv-loop μ-loop
-loop-less c = omega arith
 
 loop-again : tie.Need-loop-again Inv-loop μ-loop
 loop-again c =
@@ -93,30 +77,6 @@ returns-4 c = done _ _ _ _ _ _ _ _ _ (c .before .before .before .before .before 
 
 pub put-targets-spec : {M : Type 1} → statement M
 put-targets-spec =
-    tie.close
-    (tie.spec
-    Inv-loop
-    μ-loop
-    loop-holds
-    sub-if1
-    same-length
-    returns
-    be-id-requires
-    row-of-requires
-    enum-told
-    same-length-2
-    returns-2
-    enum-known-f
-    add-table
-    add-table-2
-    mul-table
-    slice-write-table
-    add-hope
-    add-at
-    add-j
-    loop-less
-    loop-again
-    same-length-3
-    returns-3
-    same-length-4
-    returns-4)
+    tie.close (tie.spec Inv-loop μ-loop loop-holds sub-if1 same-length returns be-id-requires row-of-requires
+    (search needs) same-length-2 returns-2 (search needs) add-table add-table-2 mul-table slice-write-table add-hope
+    add-at (λ c. omega arith) (λ c. omega arith) loop-again same-length-3 returns-3 same-length-4 returns-4)

@@ -9,25 +9,9 @@ use Rattle.references.proofs.IrefLaws.{tells-gone, tells-by}
 use borrow.Author.Needs.{needs}
 use Rattle.references.proofs.read_references.Statement.{statement}
 use Rattle.references.proofs.read_references.Tie as tie
-use Rattle.references.proofs.read_references.Reads as reads
-use Rattle.references.proofs.read_references.Lts as lts
-use Rattle.contents.proofs.read_full.Reads as read-full-reads
-use Rattle.references.proofs.put_references.Reads as put-references-reads
-
-read-full-requires : tie.Need-read-full-requires
-read-full-requires c κs = search needs
-
-enum-known-h : tie.Need-enum-known-h
-enum-known-h c = search needs
-
-enum-known-h-2 : tie.Need-enum-known-h-2
-enum-known-h-2 c = search needs
 
 put-references-requires : tie.Need-put-references-requires
 put-references-requires c κs = ((c .before .before .before .before .before .before .before .before .pre .0 .0, c .before .before .before .before .before .before .before .before .pre .0 .1, c .before .before .before .before .before .before .before .before .pre .0 .2, (full-here (upto 1) (c .before .before .before .before .before .before .before .before .args .place) (c .before .before .before .before .before .before .before .before .args .s .now) _ _ (sym (c .before .before .before .before .before .read-full .ensures) ∙ c .before .before .before .h2 .given .1)) .room, inl refl), c .before .before .before .before .before .before .before .before .pre .1)
-
-same-length : tie.Need-same-length
-same-length c = search needs
 
 returns : tie.Need-returns
 returns c = tells-by (c .before .before .before .before .before .before .before .before .before .before .before .args .s .now) (c .before .before .before .before .before .before .before .before .before .before .before .args .place) (c .before .before .before .before .before .before .before .before .before .before .before .args .base) (c .before .before .before .before .before .before .before .before .before .before .before .args .n) (c .before .before .before .before .before .before .before .before .before .before .before .args .table .now) _ _ (full-here (upto 1) (c .before .before .before .before .before .before .before .before .before .before .before .args .place) (c .before .before .before .before .before .before .before .before .before .before .before .args .s .now) _ _ (sym (c .before .before .before .before .before .before .before .before .read-full .ensures) ∙ c .before .before .before .before .before .before .h2 .given .1)) 2 (pick-yes _ _ (eq-eqb _ _ (c .before .before .before .before .if1 .taken))) _ _ (c .before .before .put-references .ensures .0) (c .before .before .put-references .ensures .1)
@@ -38,23 +22,10 @@ put-references-requires-2 c κs = ((c .before .before .before .before .before .b
 returns-2 : tie.Need-returns-2
 returns-2 c = tells-gone (c .before .before .before .before .before .before .args .s .now) (c .before .before .before .before .before .before .args .place) (c .before .before .before .before .before .before .args .base) (c .before .before .before .before .before .before .args .n) (c .before .before .before .before .before .before .args .table .now) _ (full-gone (upto 1) (c .before .before .before .before .before .before .args .place) (c .before .before .before .before .before .before .args .s .now) _ _ (sym (c .before .before .before .read-full .ensures) ∙ c .before .h .given .1))
 
-same-length-2 : tie.Need-same-length-2
-same-length-2 c = search needs
-
 returns-3 : tie.Need-returns-3
 returns-3 c = tells-by (c .before .before .before .before .before .before .before .before .before .before .before .args .s .now) (c .before .before .before .before .before .before .before .before .before .before .before .args .place) (c .before .before .before .before .before .before .before .before .before .before .before .args .base) (c .before .before .before .before .before .before .before .before .before .before .before .args .n) (c .before .before .before .before .before .before .before .before .before .before .before .args .table .now) _ _ (full-here (upto 1) (c .before .before .before .before .before .before .before .before .before .before .before .args .place) (c .before .before .before .before .before .before .before .before .before .before .before .args .s .now) _ _ (sym (c .before .before .before .before .before .before .before .before .read-full .ensures) ∙ c .before .before .before .before .before .before .h2 .given .1)) 4 (pick-no _ _ (ne-eqb _ _ (c .before .before .before .before .if1 .left))) _ _ (c .before .before .put-references2 .ensures .0) (c .before .before .put-references2 .ensures .1)
 
 pub read-references-spec : {M : Type 1} → statement M
 read-references-spec =
-    tie.close
-    (tie.spec
-    read-full-requires
-    enum-known-h
-    enum-known-h-2
-    put-references-requires
-    same-length
-    returns
-    put-references-requires-2
-    returns-2
-    same-length-2
-    returns-3)
+    tie.close (tie.spec (search needs) (search needs) (search needs) put-references-requires (search needs) returns
+    put-references-requires-2 returns-2 (search needs) returns-3)

@@ -25,21 +25,6 @@ Inv-loop table rows row z n j₀ j = (j ≤ n) × ((total : ℕ) (head : List �
 abbrev μ-loop : tie.MeasureT-loop
 μ-loop table rows row z n j₀ j = n - j
 
-input-count-requires : tie.Need-input-count-requires Inv-loop μ-loop
-input-count-requires c κs = search needs
-
-loop-holds : tie.Need-loop-holds Inv-loop μ-loop
-loop-holds c = (omega arith, λ total head f d h i. refl)
-
-input-of-requires : tie.Need-input-of-requires Inv-loop μ-loop
-input-of-requires c κs = search needs
-
-output-in-requires : tie.Need-output-in-requires Inv-loop μ-loop
-output-in-requires c κs = search needs
-
-is-same-requires : tie.Need-is-same-requires Inv-loop μ-loop
-is-same-requires c κs = search needs
-
 returns : tie.Need-returns Inv-loop μ-loop
 returns c =
     λ total head f d h i.
@@ -48,12 +33,6 @@ returns c =
     let l : j < length (targetsOf f (idOf f r)) = omega (arith, c .before .before .before .before .before .before .input-count .ensures head _ f (d .view) h) in
     let k : j < length (pictureAt (sceneOf total head f) r .inputs) = omega (arith, inputs-many d r i) in
     size-other (sceneOf total head f) _ _ j k _ (c .before .is-same .ensures ∙ ap (λ (y : Size). sameSize y (c .before .before .before .before .before .before .before .before .before .args .z)) (input-size d r i j l _ (c .before .before .before .input-of .ensures head _ f (d .view) (d .resolved) h l) _ (c .before .before .output-in .ensures))) (not-true _ (c .if1 .taken)) (c .before .before .before .before .before .loop .inv .1 total head f d h i)
-
-add-j : tie.Need-add-j Inv-loop μ-loop
-add-j c = search needs
-
-loop-less : tie.Need-loop-less Inv-loop μ-loop
-loop-less c = search needs
 
 loop-again : tie.Need-loop-again Inv-loop μ-loop
 loop-again c = (
@@ -71,17 +50,5 @@ returns-2 c = λ total head f d h i. size-all (sceneOf total head f) _ _ (c .bef
 
 pub all-size-spec : {M : Type 1} → statement M
 all-size-spec =
-    tie.close
-    (tie.spec
-    Inv-loop
-    μ-loop
-    input-count-requires
-    loop-holds
-    input-of-requires
-    output-in-requires
-    is-same-requires
-    returns
-    add-j
-    loop-less
-    loop-again
-    returns-2)
+    tie.close (tie.spec Inv-loop μ-loop (search needs) (λ c. (omega arith, λ total head f d h i. refl)) (search needs)
+    (search needs) (search needs) returns (search needs) (search needs) loop-again returns-2)

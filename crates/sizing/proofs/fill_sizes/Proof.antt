@@ -17,29 +17,11 @@ abbrev μ-loop : tie.MeasureT-loop
 returns : tie.Need-returns Inv-loop μ-loop
 returns c = λ total f x few e placed q g. absurd (omega (arith, c .if1 .taken, read-here total _ f x _ e q .enough))
 
-item-count-requires : tie.Need-item-count-requires Inv-loop μ-loop
-item-count-requires c κs = search needs
-
-same-length : tie.Need-same-length Inv-loop μ-loop
-same-length c = search needs
-
 returns-2 : tie.Need-returns-2 Inv-loop μ-loop
 returns-2 c = λ total f x few e placed q g. let w = read-here total _ f x _ e q in absurd (omega (arith, c .before .item-count .ensures, w .items, w .bounded .few-items))
 
 loop-holds : tie.Need-loop-holds Inv-loop μ-loop
 loop-holds c = let a = c .before .before .before .before .before .before .before .args in (omega arith, refl, filled-begun (a .head .now) (a .depths .now) (a .table .now))
-
-word-requires : tie.Need-word-requires Inv-loop μ-loop
-word-requires c κs = search needs
-
-fill-row-requires : tie.Need-fill-row-requires Inv-loop μ-loop
-fill-row-requires c κs = search needs
-
-add-k : tie.Need-add-k Inv-loop μ-loop
-add-k c = search needs
-
-loop-less : tie.Need-loop-less Inv-loop μ-loop
-loop-less c = search needs
 
 loop-again : tie.Need-loop-again Inv-loop μ-loop
 loop-again c =
@@ -58,19 +40,5 @@ returns-3 c =
 
 pub fill-sizes-spec : {M : Type 1} → statement M
 fill-sizes-spec =
-    tie.close
-    (tie.spec
-    Inv-loop
-    μ-loop
-    returns
-    item-count-requires
-    same-length
-    returns-2
-    loop-holds
-    word-requires
-    fill-row-requires
-    add-k
-    loop-less
-    loop-again
-    same-length-2
-    returns-3)
+    tie.close (tie.spec Inv-loop μ-loop returns (search needs) (search needs) returns-2 loop-holds (search needs)
+    (λ c κs. search needs) (search needs) (search needs) loop-again same-length-2 returns-3)

@@ -11,21 +11,12 @@ use borrow.Author.Needs.{needs}
 use Rattle.sizing.proofs.good_sizes.Statement.{statement}
 use Rattle.sizing.proofs.good_sizes.Tie as tie
 
-is-made-up-requires : tie.Need-is-made-up-requires
-is-made-up-requires c κs = search needs
-
 returns : tie.Need-returns
 returns c =
     λ total f d h i.
     let a = c .before .before .before .before .before .args in
     let s = sceneOf total (a .head .now) f in
     good-unmade s (pictureAt s (a .row .0)) (sym (c .before .is-made-up .ensures total f d h i) ∙ not-true _ (c .if1 .taken))
-
-declared-in-requires : tie.Need-declared-in-requires
-declared-in-requires c κs = search needs
-
-is-good-size-requires : tie.Need-is-good-size-requires
-is-good-size-requires c κs = search needs
 
 returns-2 : tie.Need-returns-2
 returns-2 c =
@@ -34,12 +25,6 @@ returns-2 c =
     let s = sceneOf total (a .head .now) f in
     let m : a .row .0 < length s = omega (arith, scene-many total (a .head .now) f) in
     good-undeclared s (pictureAt s (a .row .0)) (sym (c .before .before .before .before .is-made-up .ensures total f d h i) ∙ not-false _ (c .before .before .before .if1 .left)) _ (c .before .before .declared-in .ensures s (d .sizes) m) (sym (c .before .is-good-size .ensures) ∙ not-true _ (c .if2 .taken))
-
-output-in-requires : tie.Need-output-in-requires
-output-in-requires c κs = search needs
-
-is-good-size-requires-2 : tie.Need-is-good-size-requires-2
-is-good-size-requires-2 c κs = search needs
 
 returns-3 : tie.Need-returns-3
 returns-3 c =
@@ -51,13 +36,5 @@ returns-3 c =
 
 pub good-sizes-spec : {M : Type 1} → statement M
 good-sizes-spec =
-    tie.close
-    (tie.spec
-    is-made-up-requires
-    returns
-    declared-in-requires
-    is-good-size-requires
-    returns-2
-    output-in-requires
-    is-good-size-requires-2
+    tie.close (tie.spec (search needs) returns (search needs) (search needs) returns-2 (search needs) (search needs)
     returns-3)

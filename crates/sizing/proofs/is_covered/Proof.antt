@@ -8,8 +8,5 @@ use Rattle.sizing.proofs.is_covered.Tie as tie
 mul-result : tie.Need-mul-result
 mul-result c = omega (arith, mul-le-mul-right {m = c .args .tile} {n = 4294967295} (c .args .count) (omega arith))
 
-returns : tie.Need-returns
-returns c = search needs
-
 pub is-covered-spec : {M : Type 1} → statement M
-is-covered-spec = tie.close (tie.spec mul-result returns)
+is-covered-spec = tie.close (tie.spec mul-result (λ c. search needs))

@@ -9,15 +9,6 @@ use borrow.Author.Needs.{needs}
 use Rattle.sizing.proofs.tiles_fit.Statement.{statement}
 use Rattle.sizing.proofs.tiles_fit.Tie as tie
 
-input-of-requires : tie.Need-input-of-requires
-input-of-requires c κs = search needs
-
-output-in-requires : tie.Need-output-in-requires
-output-in-requires c κs = search needs
-
-all-size-requires : tie.Need-all-size-requires
-all-size-requires c κs = search needs
-
 returns : tie.Need-returns
 returns c =
     λ total head f d h i n.
@@ -25,9 +16,6 @@ returns c =
     let s = sceneOf total head f in
     let l = rw (inputs-many d (a .row .0) i) at n in
     tiles-unlike s (pictureAt s (a .row .0)) (record { rows = a .down; columns = a .across; wide = a .canvas .wide; high = a .canvas .high }) _ (input-size d (a .row .0) i 0 l _ (c .before .before .before .input-of .ensures head _ f (d .view) (d .resolved) h l) _ (c .before .before .output-in .ensures)) (sym (c .before .all-size .ensures total head f d h i) ∙ not-true _ (c .if1 .taken))
-
-is-covered-requires : tie.Need-is-covered-requires
-is-covered-requires c κs = search needs
 
 returns-2 : tie.Need-returns-2
 returns-2 c =
@@ -37,9 +25,6 @@ returns-2 c =
     let l = rw (inputs-many d (a .row .0) i) at n in
     tiles-narrow s (pictureAt s (a .row .0)) (record { rows = a .down; columns = a .across; wide = a .canvas .wide; high = a .canvas .high }) _ (input-size d (a .row .0) i 0 l _ (c .before .before .before .before .before .input-of .ensures head _ f (d .view) (d .resolved) h l) _ (c .before .before .before .before .output-in .ensures)) (sym (c .before .before .before .all-size .ensures total head f d h i) ∙ not-false _ (c .before .before .if1 .left)) (sym (c .before .is-covered .ensures) ∙ not-true _ (c .if2 .taken))
 
-is-covered-requires-2 : tie.Need-is-covered-requires-2
-is-covered-requires-2 c κs = search needs
-
 returns-3 : tie.Need-returns-3
 returns-3 c =
     λ total head f d h i n.
@@ -47,12 +32,6 @@ returns-3 c =
     let s = sceneOf total head f in
     let l = rw (inputs-many d (a .row .0) i) at n in
     tiles-low s (pictureAt s (a .row .0)) (record { rows = a .down; columns = a .across; wide = a .canvas .wide; high = a .canvas .high }) _ (input-size d (a .row .0) i 0 l _ (c .before .before .before .before .before .before .before .input-of .ensures head _ f (d .view) (d .resolved) h l) _ (c .before .before .before .before .before .before .output-in .ensures)) (sym (c .before .before .before .before .before .all-size .ensures total head f d h i) ∙ not-false _ (c .before .before .before .before .if1 .left)) (sym (c .before .before .before .is-covered .ensures) ∙ not-false _ (c .before .before .if2 .left)) (sym (c .before .is-covered2 .ensures) ∙ not-true _ (c .if3 .taken))
-
-declared-in-requires : tie.Need-declared-in-requires
-declared-in-requires c κs = search needs
-
-is-same-requires : tie.Need-is-same-requires
-is-same-requires c κs = search needs
 
 returns-4 : tie.Need-returns-4
 returns-4 c =
@@ -64,16 +43,5 @@ returns-4 c =
 
 pub tiles-fit-spec : {M : Type 1} → statement M
 tiles-fit-spec =
-    tie.close
-    (tie.spec
-    input-of-requires
-    output-in-requires
-    all-size-requires
-    returns
-    is-covered-requires
-    returns-2
-    is-covered-requires-2
-    returns-3
-    declared-in-requires
-    is-same-requires
-    returns-4)
+    tie.close (tie.spec (search needs) (search needs) (search needs) returns (search needs) returns-2 (search needs)
+    returns-3 (search needs) (search needs) returns-4)

@@ -7,32 +7,11 @@ use borrow.Author.Needs.{needs}
 use Rattle.still.proofs.open_file.Statement.{statement}
 use Rattle.still.proofs.open_file.Tie as tie
 
-read-file-requires : tie.Need-read-file-requires
-read-file-requires c κs = search needs
-
-enum-known-r : tie.Need-enum-known-r
-enum-known-r c = search needs
-
-enum-known-r-2 : tie.Need-enum-known-r-2
-enum-known-r-2 c = search needs
-
 judge-requires : tie.Need-judge-requires
 judge-requires c κs =
     let a = c .before .before .before .before .before .before .before .before .before .before .args in
     let k = read-on (a .total) (a .head .now) (a .table .now) _ _ _ (sym (c .before .before .before .before .before .before .read-file .ensures .0) ∙ c .before .before .r2 .given .1) (c .before .before .before .before .before .before .read-file .ensures .1) in
     (k .1 .0, drop 11280 (a .table .now), k .1 .1)
-
-enum-told : tie.Need-enum-told
-enum-told c = search needs
-
-enum-known-j : tie.Need-enum-known-j
-enum-known-j c = search needs
-
-clear-requires : tie.Need-clear-requires
-clear-requires c κs = search needs
-
-same-length : tie.Need-same-length
-same-length c = search needs
 
 returns : tie.Need-returns
 returns c =
@@ -40,18 +19,12 @@ returns c =
     let o = read-off (a .total) (a .head .now) (a .table .now) _ (sym (c .before .before .before .before .before .read-file .ensures .0) ∙ c .before .r .given .1) in
     (o .0, c .before .before .before .before .before .read-file .ensures .1 ∙ o .1)
 
-same-length-2 : tie.Need-same-length-2
-same-length-2 c = search needs
-
 returns-2 : tie.Need-returns-2
 returns-2 c =
     let a = c .before .before .before .before .before .before .before .before .before .before .before .before .before .before .before .args in
     let k = read-on (a .total) (a .head .now) (a .table .now) _ _ _ (sym (c .before .before .before .before .before .before .before .before .before .before .before .read-file .ensures .0) ∙ c .before .before .before .before .before .before .before .r2 .given .1) (c .before .before .before .before .before .before .before .before .before .before .before .read-file .ensures .1) in
     let j = c .before .before .before .before .judge .ensures .0 (k .1 .0) (drop 11280 (a .table .now)) (k .1 .1) in
     judged-on (a .total) (a .head .now) (a .table .now) (k .0) (k .1 .0) (k .1 .1 .read) (sym (c .enum-told .given .1) ∙ j .answer) _ (j .left)
-
-same-length-3 : tie.Need-same-length-3
-same-length-3 c = search needs
 
 returns-3 : tie.Need-returns-3
 returns-3 c =
@@ -62,18 +35,5 @@ returns-3 c =
 
 pub open-file-spec : {M : Type 1} → statement M
 open-file-spec =
-    tie.close
-    (tie.spec
-    read-file-requires
-    enum-known-r
-    enum-known-r-2
-    judge-requires
-    enum-told
-    enum-known-j
-    clear-requires
-    same-length
-    returns
-    same-length-2
-    returns-2
-    same-length-3
-    returns-3)
+    tie.close (tie.spec (search needs) (search needs) (search needs) judge-requires (search needs) (search needs)
+    (search needs) (search needs) returns (search needs) returns-2 (search needs) returns-3)

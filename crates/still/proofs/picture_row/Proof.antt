@@ -7,29 +7,8 @@ use borrow.Author.Needs.{needs}
 use Rattle.still.proofs.picture_row.Statement.{statement}
 use Rattle.still.proofs.picture_row.Tie as tie
 
-row-named-requires : tie.Need-row-named-requires
-row-named-requires c κs = search needs
-
-enum-told : tie.Need-enum-told
-enum-told c = search needs
-
-refusal-requires : tie.Need-refusal-requires
-refusal-requires c κs = search needs
-
-enum-known-found : tie.Need-enum-known-found
-enum-known-found c = search needs
-
-type-of-requires : tie.Need-type-of-requires
-type-of-requires c κs = search needs
-
-is-image-requires : tie.Need-is-image-requires
-is-image-requires c κs = search needs
-
 returns : tie.Need-returns
 returns c = λ head pl f v. let e = c .before .before .before .before .before .before .row-named .ensures head pl f v in let q = c .before .before .before .before .found .given .1 in let l = found-row f _ _ e _ q in picture-at f _ _ e _ q (sym (c .before .is-image .ensures ∙ ap image (c .before .before .type-of .ensures (omega (arith, l, v .bounded .few-items)) ∙ v .type _ l)) ∙ c .if1 .taken)
-
-refusal-requires-2 : tie.Need-refusal-requires-2
-refusal-requires-2 c κs = search needs
 
 returns-2 : tie.Need-returns-2
 returns-2 c = λ head pl f v. picture-none f _ _ (c .before .before .before .row-named .ensures head pl f v) (c .before .enum-told .given .1) _ (c .refusal .ensures .0) (c .refusal .ensures .1)
@@ -39,15 +18,5 @@ returns-3 c = λ head pl f v. let e = c .before .before .before .before .before 
 
 pub picture-row-spec : {M : Type 1} → statement M
 picture-row-spec =
-    tie.close
-    (tie.spec
-    row-named-requires
-    enum-told
-    refusal-requires
-    enum-known-found
-    type-of-requires
-    is-image-requires
-    returns
-    refusal-requires-2
-    returns-2
-    returns-3)
+    tie.close (tie.spec (search needs) (search needs) (search needs) (search needs) (search needs) (search needs)
+    returns (search needs) returns-2 returns-3)

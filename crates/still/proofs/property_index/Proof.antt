@@ -1,7 +1,7 @@
 -- `still::property_index` meets its contract. Assumes nothing.
 use native.Mathlib.Omega.{arith}
 use Prim.Native.Nat.{_-_, _<_, _≤_}
-use mathlib.Core.Path.{_≡_, sym, _∙_}
+use mathlib.Core.Path.{_∙_}
 use lib.ListN.{length}
 use Rattle.rules.specs.Joined.{associationsOf}
 use Rattle.views.specs.View.{idOf}
@@ -12,41 +12,11 @@ use borrow.Author.Needs.{needs}
 use Rattle.still.proofs.property_index.Statement.{statement}
 use Rattle.still.proofs.property_index.Tie as tie
 
-row-named-requires : tie.Need-row-named-requires
-row-named-requires c κs = search needs
-
-enum-told : tie.Need-enum-told
-enum-told c = search needs
-
-refusal-requires : tie.Need-refusal-requires
-refusal-requires c κs = search needs
-
-enum-known-found : tie.Need-enum-known-found
-enum-known-found c = search needs
-
-refusal-requires-2 : tie.Need-refusal-requires-2
-refusal-requires-2 c κs = search needs
-
 returns : tie.Need-returns
 returns c = λ head pl f v. let e = c .before .before .before .before .before .row-named .ensures head pl f v in index-under f _ _ _ e _ (c .before .before .before .found .given .1) (c .before .if1 .taken) _ (c .refusal2 .ensures .0) (c .refusal2 .ensures .1)
 
-record-word-requires : tie.Need-record-word-requires
-record-word-requires c κs = search needs
-
-refusal-requires-3 : tie.Need-refusal-requires-3
-refusal-requires-3 c κs = search needs
-
 returns-2 : tie.Need-returns-2
 returns-2 c = λ head pl f v. let e = c .before .before .before .before .before .before .before .row-named .ensures head pl f v in let q = c .before .before .before .before .before .found .given .1 in let l = found-row f _ _ e _ q in let m = (c .before .before .record-word .ensures (omega (arith, l, v .bounded .few-items)) ∙ v .named-count _ l) in index-over f _ _ _ e _ q (c .before .before .before .if1 .left) (rw (← m) (c .before .if2 .taken)) _ (c .refusal3 .ensures .0) (c .refusal3 .ensures .1)
-
-cast-association-of : tie.Need-cast-association-of
-cast-association-of c = search needs
-
-association-of-requires : tie.Need-association-of-requires
-association-of-requires c κs = search needs
-
-index-of-requires : tie.Need-index-of-requires
-index-of-requires c κs = search needs
 
 returns-3 : tie.Need-returns-3
 returns-3 c = λ head pl f v. index-none f _ _ _ (c .before .before .before .row-named .ensures head pl f v) (c .before .enum-told .given .1) _ (c .refusal .ensures .0) (c .refusal .ensures .1)
@@ -56,19 +26,6 @@ returns-4 c = λ head pl f v. let e = c .before .before .before .before .before 
 
 pub property-index-spec : {M : Type 1} → statement M
 property-index-spec =
-    tie.close
-    (tie.spec
-    row-named-requires
-    enum-told
-    refusal-requires
-    enum-known-found
-    refusal-requires-2
-    returns
-    record-word-requires
-    refusal-requires-3
-    returns-2
-    cast-association-of
-    association-of-requires
-    index-of-requires
-    returns-3
+    tie.close (tie.spec (search needs) (search needs) (search needs) (search needs) (search needs) returns
+    (λ c κs. search needs) (search needs) returns-2 (search needs) (λ c κs. search needs) (search needs) returns-3
     returns-4)

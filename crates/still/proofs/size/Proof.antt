@@ -7,39 +7,13 @@ use borrow.Author.Needs.{needs}
 use Rattle.still.proofs.size.Statement.{statement}
 use Rattle.still.proofs.size.Tie as tie
 
-open-file-requires : tie.Need-open-file-requires
-open-file-requires c κs = search needs
-
-enum-known-o : tie.Need-enum-known-o
-enum-known-o c = search needs
-
-enum-told : tie.Need-enum-told
-enum-told c = search needs
-
-size-in-requires : tie.Need-size-in-requires
-size-in-requires c κs = search needs
-
-same-length : tie.Need-same-length
-same-length c = search needs
-
 returns : tie.Need-returns
 returns c = let a = c .before .before .before .before .before .before .before .before .before .args in (asked-off (a .total) (a .head .now) (a .table .now) _ (sym (c .before .before .before .before .before .open-file .ensures .0) ∙ c .before .o .given .1) _, c .before .before .before .before .before .open-file .ensures .1)
-
-same-length-2 : tie.Need-same-length-2
-same-length-2 c = search needs
 
 returns-2 : tie.Need-returns-2
 returns-2 c = let a = c .before .before .before .before .before .before .before .before .before .before .args in let k = opened-file _ (sym (c .before .before .before .before .before .before .open-file .ensures .0) ∙ c .before .before .enum-told .given .1) in let few : a .total < 18446744073709551616 = omega (arith, c .before .before .before .before .before .before .before .before .before .before .fits .total) in let o = c .before .before .before .before .before .before .open-file .ensures .1 in (c .size-in .ensures _ _ _ (k .0) (file-view (a .total) (a .head .now) (a .table .now) few (k .0) (k .1) _ o) (file-sizes (a .total) (a .head .now) (a .table .now) few (k .0) (k .1) _ o) ∙ asked-on (a .total) (a .head .now) (a .table .now) few (k .0) (k .1) _ o _, o)
 
 pub size-spec : {M : Type 1} → statement M
 size-spec =
-    tie.close
-    (tie.spec
-    open-file-requires
-    enum-known-o
-    enum-told
-    size-in-requires
-    same-length
-    returns
-    same-length-2
-    returns-2)
+    tie.close (tie.spec (search needs) (search needs) (search needs) (search needs) (search needs) returns
+    (search needs) returns-2)

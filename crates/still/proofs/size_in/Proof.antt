@@ -8,30 +8,6 @@ use borrow.Author.Needs.{needs}
 use Rattle.still.proofs.size_in.Statement.{statement}
 use Rattle.still.proofs.size_in.Tie as tie
 
-picture-row-requires : tie.Need-picture-row-requires
-picture-row-requires c κs = search needs
-
-enum-known-p : tie.Need-enum-known-p
-enum-known-p c = search needs
-
-enum-known-p-2 : tie.Need-enum-known-p-2
-enum-known-p-2 c = search needs
-
-record-word-requires : tie.Need-record-word-requires
-record-word-requires c κs = search needs
-
-record-word-requires-2 : tie.Need-record-word-requires-2
-record-word-requires-2 c κs = search needs
-
-record-word-requires-3 : tie.Need-record-word-requires-3
-record-word-requires-3 c κs = search needs
-
-record-word-requires-4 : tie.Need-record-word-requires-4
-record-word-requires-4 c κs = search needs
-
-record-word-requires-5 : tie.Need-record-word-requires-5
-record-word-requires-5 c κs = search needs
-
 returns : tie.Need-returns
 returns c = λ total head pl f v z. size-off _ f _ _ (sym (c .before .before .before .picture-row .ensures head pl f v) ∙ c .before .p .given .1)
 
@@ -40,15 +16,5 @@ returns-2 c = λ total head pl f v z. let q = sym (c .before .before .before .be
 
 pub size-in-spec : {M : Type 1} → statement M
 size-in-spec =
-    tie.close
-    (tie.spec
-    picture-row-requires
-    enum-known-p
-    enum-known-p-2
-    record-word-requires
-    record-word-requires-2
-    record-word-requires-3
-    record-word-requires-4
-    record-word-requires-5
-    returns
-    returns-2)
+    tie.close (tie.spec (search needs) (search needs) (search needs) (λ c κs. search needs) (λ c κs. search needs)
+    (λ c κs. search needs) (λ c κs. search needs) (λ c κs. search needs) returns returns-2)

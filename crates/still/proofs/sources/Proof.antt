@@ -13,43 +13,13 @@ use borrow.Author.Needs.{needs}
 use Rattle.still.proofs.sources.Statement.{statement}
 use Rattle.still.proofs.sources.Tie as tie
 
-open-file-requires : tie.Need-open-file-requires
-open-file-requires c κs = search needs
-
-enum-known-o : tie.Need-enum-known-o
-enum-known-o c = search needs
-
-enum-told : tie.Need-enum-told
-enum-told c = search needs
-
-sources-in-requires : tie.Need-sources-in-requires
-sources-in-requires c κs = search needs
-
-same-length : tie.Need-same-length
-same-length c = search needs
-
 returns : tie.Need-returns
 returns c = let a = c .before .before .before .before .before .before .before .before .before .before .args in let o = listed-off (a .total) (a .head .now) (a .table .now) (a .id .0) (length (a .list .now)) (a .list .now) _ (sym (c .before .before .before .before .before .open-file .ensures .0) ∙ c .before .o .given .1) in (o .0, (o .1, c .before .before .before .before .before .open-file .ensures .1))
-
-same-length-2 : tie.Need-same-length-2
-same-length-2 c = search needs
-
-same-length-3 : tie.Need-same-length-3
-same-length-3 c = search needs
 
 returns-2 : tie.Need-returns-2
 returns-2 c = let a = c .before .before .before .before .before .before .before .before .before .before .before .before .before .before .args in let k = opened-file _ (sym (c .before .before .before .before .before .before .before .before .before .open-file .ensures .0) ∙ c .before .before .before .before .before .enum-told .given .1) in let few : a .total < 18446744073709551616 = omega (arith, c .before .before .before .before .before .before .before .before .before .before .before .before .before .before .fits .total) in let o = c .before .before .before .before .before .before .before .before .before .open-file .ensures .1 in let r = c .before .before .sources-in .ensures _ _ (k .0) (file-shown (a .total) (a .head .now) (a .table .now) few (k .0) (k .1) _ o) in let z = listed-on (a .total) (a .head .now) (a .table .now) (a .id .0) (length (a .list .now)) (a .list .now) (k .0) (k .1) in (r .0 ∙ ap toldListed z, (r .1 ∙ ap (λ (m : Answer (List ℕ)). listAfter m (a .list .now)) z, o))
 
 pub sources-spec : {M : Type 1} → statement M
 sources-spec =
-    tie.close
-    (tie.spec
-    open-file-requires
-    enum-known-o
-    enum-told
-    sources-in-requires
-    same-length
-    returns
-    same-length-2
-    same-length-3
-    returns-2)
+    tie.close (tie.spec (search needs) (search needs) (search needs) (search needs) (search needs) returns
+    (search needs) (search needs) returns-2)

@@ -9,75 +9,21 @@ use borrow.Author.Needs.{needs}
 use Rattle.still.proofs.sources_in.Statement.{statement}
 use Rattle.still.proofs.sources_in.Tie as tie
 
-picture-row-requires : tie.Need-picture-row-requires
-picture-row-requires c κs = search needs
-
-enum-known-r : tie.Need-enum-known-r
-enum-known-r c = search needs
-
-enum-known-r-2 : tie.Need-enum-known-r-2
-enum-known-r-2 c = search needs
-
-item-count-requires : tie.Need-item-count-requires
-item-count-requires c κs = search needs
-
 returns : tie.Need-returns
 returns c = λ total head f w. absurd (omega (arith, w .view .items, c .before .item-count .ensures, w .view .bounded .few-items))
 
-resolve-requires : tie.Need-resolve-requires
-resolve-requires c κs = search needs
-
-slice-aggregate-needed-of : tie.Need-slice-aggregate-needed-of
-slice-aggregate-needed-of c = search needs
-
-needed-of-requires : tie.Need-needed-of-requires
-needed-of-requires c κs = search needs
-
-slice-aggregate-count-sources : tie.Need-slice-aggregate-count-sources
-slice-aggregate-count-sources c = search needs
-
-count-sources-requires : tie.Need-count-sources-requires
-count-sources-requires c κs = search needs
-
-refusal-requires : tie.Need-refusal-requires
-refusal-requires c κs = search needs
-
 returns-2 : tie.Need-returns-2
-returns-2 c = λ total head f w. let a = c .before .before .before .before .before .before .before .before .before .before .before .before .before .before .before .args in let q = sym (c .before .before .before .before .before .before .before .before .before .before .before .before .picture-row .ensures _ _ f (w .view)) ∙ c .before .before .before .before .before .before .before .before .before .before .r2 .given .1 in sources-over (a .table .now) _ total f w (a .id .0) (length (a .list .now)) (a .list .now) _ q (c .before .before .before .before .before .before .before .before .item-count .result) _ (c .before .before .before .before .needed-of .result) (c .before .before .before .before .before .before .before .before .item-count .ensures) (c .before .before .before .before .before .before .resolve .ensures _ _ f (w .view)) (c .before .before .before .before .needed-of .ensures) (omega (arith, c .before .if2 .taken, c .before .before .count-sources .ensures)) _ (c .refusal .ensures .0) (c .refusal .ensures .1)
-
-slice-aggregate-put-sources : tie.Need-slice-aggregate-put-sources
-slice-aggregate-put-sources c = search needs
-
-put-sources-requires : tie.Need-put-sources-requires
-put-sources-requires c κs = search needs
+returns-2 c = λ total head f w. let a = c .before .before .before .before .before .before .before .before .before .before .before .before .before .before .before .before .before .args in let q = sym (c .before .before .before .before .before .before .before .before .before .before .before .before .before .before .picture-row .ensures _ _ f (w .view)) ∙ c .before .before .before .before .before .before .before .before .before .before .before .before .r2 .given .1 in sources-over (a .table .now) _ total f w (a .id .0) (length (a .list .now)) (a .list .now) _ q (c .before .before .before .before .before .before .before .before .before .before .item-count .result) _ (c .before .before .before .before .needed-of .result) (c .before .before .before .before .before .before .before .before .before .before .item-count .ensures) (c .before .before .before .before .before .before .before .resolve .ensures _ _ f (w .view)) (c .before .before .before .before .needed-of .ensures) (omega (arith, c .before .if2 .taken, c .before .before .count-sources .ensures)) _ (c .refusal .ensures .0) (c .refusal .ensures .1)
 
 returns-3 : tie.Need-returns-3
 returns-3 c = λ total head f w. let a = c .before .before .before .before .before .before .args in sources-off (a .table .now) _ total f w (a .id .0) (length (a .list .now)) (a .list .now) _ (sym (c .before .before .before .picture-row .ensures _ _ f (w .view)) ∙ c .before .r .given .1)
 
-same-length : tie.Need-same-length
-same-length c = search needs
-
 returns-4 : tie.Need-returns-4
-returns-4 c = λ total head f w. let a = c .before .before .before .before .before .before .before .before .before .before .before .before .before .before .before .before .before .before .before .args in let q = sym (c .before .before .before .before .before .before .before .before .before .before .before .before .before .before .before .before .picture-row .ensures _ _ f (w .view)) ∙ c .before .before .before .before .before .before .before .before .before .before .before .before .before .before .r2 .given .1 in let m = c .before .before .before .before .before .before .count-sources .ensures in let n : length (markedOf (a .table .now) (c .before .before .before .before .before .before .before .before .needed-of .result) (c .before .before .before .before .before .before .before .before .before .before .before .before .item-count .result)) ≤ length (a .list .now) = omega (arith, c .before .before .before .before .before .if2 .left, m) in sources-fit (a .table .now) _ total f w (a .id .0) (length (a .list .now)) (a .list .now) _ q (c .before .before .before .before .before .before .before .before .before .before .before .before .item-count .result) _ (c .before .before .before .before .before .before .before .before .needed-of .result) (c .before .before .before .before .before .before .before .before .before .before .before .before .item-count .ensures) (c .before .before .before .before .before .before .before .before .before .before .resolve .ensures _ _ f (w .view)) (c .before .before .before .before .before .before .before .before .needed-of .ensures) n _ _ (c .before .before .before .before .before .before .count-sources .ensures) (c .before .before .put-sources .ensures n)
+returns-4 c = λ total head f w. let a = c .before .before .before .before .before .before .before .before .before .before .before .before .before .before .before .before .before .before .before .before .before .args in let q = sym (c .before .before .before .before .before .before .before .before .before .before .before .before .before .before .before .before .before .before .picture-row .ensures _ _ f (w .view)) ∙ c .before .before .before .before .before .before .before .before .before .before .before .before .before .before .before .before .r2 .given .1 in let m = c .before .before .before .before .before .before .count-sources .ensures in let n : length (markedOf (a .table .now) (c .before .before .before .before .before .before .before .before .needed-of .result) (c .before .before .before .before .before .before .before .before .before .before .before .before .before .before .item-count .result)) ≤ length (a .list .now) = omega (arith, c .before .before .before .before .before .if2 .left, m) in sources-fit (a .table .now) _ total f w (a .id .0) (length (a .list .now)) (a .list .now) _ q (c .before .before .before .before .before .before .before .before .before .before .before .before .before .before .item-count .result) _ (c .before .before .before .before .before .before .before .before .needed-of .result) (c .before .before .before .before .before .before .before .before .before .before .before .before .before .before .item-count .ensures) (c .before .before .before .before .before .before .before .before .before .before .before .resolve .ensures _ _ f (w .view)) (c .before .before .before .before .before .before .before .before .needed-of .ensures) n _ _ (c .before .before .before .before .before .before .count-sources .ensures) (c .before .before .put-sources .ensures n)
 
 pub sources-in-spec : {M : Type 1} → statement M
 sources-in-spec =
-    tie.close
-    (tie.spec
-    picture-row-requires
-    enum-known-r
-    enum-known-r-2
-    item-count-requires
-    returns
-    resolve-requires
-    slice-aggregate-needed-of
-    needed-of-requires
-    slice-aggregate-count-sources
-    count-sources-requires
-    refusal-requires
-    returns-2
-    slice-aggregate-put-sources
-    put-sources-requires
-    returns-3
-    same-length
-    returns-4)
+    tie.close (tie.spec (λ c κs. search needs) (search needs) (search needs) (λ c κs. search needs) returns
+    (search needs) (λ c κs. search needs) (search needs) (λ c κs. search needs) (search needs)
+    (λ c κs. search needs) (λ c κs. search needs) returns-2 (search needs) (λ c κs. search needs) returns-3
+    (search needs) returns-4)

@@ -1,11 +1,8 @@
 -- `still::trace_in` meets its contract. Assumes nothing.
-use native.Mathlib.Omega.{arith}
-use Prim.Native.Nat.{_<_, _≤_}
-use mathlib.Core.Path.{_≡_, sym, ap, subst, _∙_}
+use Prim.Native.Nat.{_≤_}
+use mathlib.Core.Path.{sym, subst, _∙_}
 use mathlib.Core.Logic.{inl, inr}
-use lib.ListN.{length}
 use Rattle.pictures.specs.declared.Size.{Size}
-use Rattle.pictures.specs.Scene.{pictureAt, outputOf}
 use Rattle.rules.specs.Derivations.{sceneOf}
 use Rattle.judging.proofs.SceneLaws.{scene-long}
 use Rattle.still.proofs.TraceLaws.{trace-off, trace-row, trace-image, trace-outside, on-output, end-listed, trace-inside}
@@ -13,35 +10,11 @@ use borrow.Author.Needs.{needs}
 use Rattle.still.proofs.trace_in.Statement.{statement}
 use Rattle.still.proofs.trace_in.Tie as tie
 
-picture-row-requires : tie.Need-picture-row-requires
-picture-row-requires c κs = search needs
-
-enum-known-r : tie.Need-enum-known-r
-enum-known-r c = search needs
-
-enum-known-r-2 : tie.Need-enum-known-r-2
-enum-known-r-2 c = search needs
-
-output-in-requires : tie.Need-output-in-requires
-output-in-requires c κs = search needs
-
-refusal-requires : tie.Need-refusal-requires
-refusal-requires c κs = search needs
-
 returns : tie.Need-returns
 returns c = λ total f w. let a = c .before .before .before .before .before .before .before .before .before .before .before .args in let q = sym (c .before .before .before .before .before .before .before .before .picture-row .ensures _ _ f (w .view)) ∙ c .before .before .before .before .before .before .r2 .given .1 in let l = trace-row (a .table .now) (a .head .now) total f w (a .id .0) (a .p) _ q in let o = c .before .before .before .before .output-in .ensures (sceneOf total (a .head .now) f) (w .sizes) (rw (scene-long total (a .head .now) f) l) in trace-outside (a .table .now) (a .head .now) total f w (a .id .0) (a .p) _ q (inl (subst (λ (z : Size). z .wide ≤ a .p .x) o (c .before .if1 .taken))) _ (c .refusal .ensures .0) (c .refusal .ensures .1)
 
-refusal-requires-2 : tie.Need-refusal-requires-2
-refusal-requires-2 c κs = search needs
-
 returns-2 : tie.Need-returns-2
 returns-2 c = λ total f w. let a = c .before .before .before .before .before .before .before .before .before .before .before .before .before .before .args in let q = sym (c .before .before .before .before .before .before .before .before .before .before .before .picture-row .ensures _ _ f (w .view)) ∙ c .before .before .before .before .before .before .before .before .before .r2 .given .1 in let l = trace-row (a .table .now) (a .head .now) total f w (a .id .0) (a .p) _ q in let o = c .before .before .before .before .before .before .before .output-in .ensures (sceneOf total (a .head .now) f) (w .sizes) (rw (scene-long total (a .head .now) f) l) in trace-outside (a .table .now) (a .head .now) total f w (a .id .0) (a .p) _ q (inr (subst (λ (z : Size). z .high ≤ a .p .y) o (c .before .if2 .taken))) _ (c .refusal2 .ensures .0) (c .refusal2 .ensures .1)
-
-trace-output-requires : tie.Need-trace-output-requires
-trace-output-requires c κs = search needs
-
-ended-requires : tie.Need-ended-requires
-ended-requires c κs = search needs
 
 returns-3 : tie.Need-returns-3
 returns-3 c = λ total f w. trace-off _ _ total f w _ _ _ (sym (c .before .before .before .picture-row .ensures _ _ f (w .view)) ∙ c .before .r .given .1)
@@ -51,17 +24,5 @@ returns-4 c = λ total f w. let a = c .before .before .before .before .before .b
 
 pub trace-in-spec : {M : Type 1} → statement M
 trace-in-spec =
-    tie.close
-    (tie.spec
-    picture-row-requires
-    enum-known-r
-    enum-known-r-2
-    output-in-requires
-    refusal-requires
-    returns
-    refusal-requires-2
-    returns-2
-    trace-output-requires
-    ended-requires
-    returns-3
-    returns-4)
+    tie.close (tie.spec (search needs) (search needs) (search needs) (search needs) (search needs) returns
+    (search needs) returns-2 (λ c κs. search needs) (search needs) returns-3 returns-4)

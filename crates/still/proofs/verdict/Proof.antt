@@ -6,43 +6,13 @@ use borrow.Author.Needs.{needs}
 use Rattle.still.proofs.verdict.Statement.{statement}
 use Rattle.still.proofs.verdict.Tie as tie
 
-open-file-requires : tie.Need-open-file-requires
-open-file-requires c κs = search needs
-
-enum-known-o : tie.Need-enum-known-o
-enum-known-o c = search needs
-
-enum-told : tie.Need-enum-told
-enum-told c = search needs
-
-word-requires : tie.Need-word-requires
-word-requires c κs = search needs
-
-word-requires-2 : tie.Need-word-requires-2
-word-requires-2 c κs = search needs
-
-same-length : tie.Need-same-length
-same-length c = search needs
-
 returns : tie.Need-returns
 returns c = let a = c .before .before .before .before .before .before .before .before .before .args in (verdict-off (a .total) (a .head .now) (a .table .now) _ (sym (c .before .before .before .before .before .open-file .ensures .0) ∙ c .before .o .given .1), c .before .before .before .before .before .open-file .ensures .1)
-
-same-length-2 : tie.Need-same-length-2
-same-length-2 c = search needs
 
 returns-2 : tie.Need-returns-2
 returns-2 c = let a = c .before .before .before .before .before .before .before .before .before .before .before .before .args in let k = opened-file _ (sym (c .before .before .before .before .before .before .before .before .open-file .ensures .0) ∙ c .before .before .before .before .enum-told .given .1) in (verdict-on (a .total) (a .head .now) (a .table .now) (omega (arith, c .before .before .before .before .before .before .before .before .before .before .before .before .fits .total)) (k .0) (k .1) _ (c .before .before .before .before .before .before .before .before .open-file .ensures .1) _ _ (c .before .before .word .ensures) (c .word2 .ensures), c .before .before .before .before .before .before .before .before .open-file .ensures .1)
 
 pub verdict-spec : {M : Type 1} → statement M
 verdict-spec =
-    tie.close
-    (tie.spec
-    open-file-requires
-    enum-known-o
-    enum-told
-    word-requires
-    word-requires-2
-    same-length
-    returns
-    same-length-2
-    returns-2)
+    tie.close (tie.spec (search needs) (search needs) (search needs) (search needs) (search needs) (search needs)
+    returns (search needs) returns-2)

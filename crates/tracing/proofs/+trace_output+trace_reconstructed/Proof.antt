@@ -63,12 +63,6 @@ output-claims t = (
 abbrev reconstructed-claims : ℕ → trace-reconstructed-lts.Claims
 reconstructed-claims t = (source-of-reads.Asked, source-of-reads.Learnt, trace-output-below t, trace-output.Post)
 
-trace-output-declared-in-requires : (t : ℕ) → trace-output-lts.Need-declared-in-requires (output-claims t) (trace-output-at t) trace-output.Post
-trace-output-declared-in-requires t c κs = search needs
-
-trace-output-undone-requires : (t : ℕ) → trace-output-lts.Need-undone-requires (output-claims t) (trace-output-at t) trace-output.Post
-trace-output-undone-requires t c κs = search needs
-
 trace-output-trace-reconstructed-requires :
     (t : ℕ) → trace-output-lts.Need-trace-reconstructed-requires (output-claims t) (trace-output-at t) trace-output.Post
 trace-output-trace-reconstructed-requires t c κs = search needs
@@ -79,38 +73,11 @@ trace-output-returns t c =
     let a = c .before .before .before .before .before .args in
     end-output v (a .row .0) h i (a .d) (a .passed) (a .p) l _ (c .before .before .declared-in .ensures) _ (c .before .undone .ensures _ f (v .view) h) _ (c .trace-reconstructed .ensures total f v h i)
 
-trace-reconstructed-source-of-requires : (t : ℕ) → trace-reconstructed-lts.Need-source-of-requires (reconstructed-claims t) (trace-reconstructed-at t) trace-reconstructed.Post
-trace-reconstructed-source-of-requires t c κs = search needs
-
-trace-reconstructed-enum-told : (t : ℕ) → trace-reconstructed-lts.Need-enum-told (reconstructed-claims t) (trace-reconstructed-at t) trace-reconstructed.Post
-trace-reconstructed-enum-told t c = search needs
-
-trace-reconstructed-add-t11 : (t : ℕ) → trace-reconstructed-lts.Need-add-t11 (reconstructed-claims t) (trace-reconstructed-at t) trace-reconstructed.Post
-trace-reconstructed-add-t11 t c = search needs
-
-trace-reconstructed-enum-told-2 : (t : ℕ) → trace-reconstructed-lts.Need-enum-told-2 (reconstructed-claims t) (trace-reconstructed-at t) trace-reconstructed.Post
-trace-reconstructed-enum-told-2 t c = search needs
-
-trace-reconstructed-add-t12 : (t : ℕ) → trace-reconstructed-lts.Need-add-t12 (reconstructed-claims t) (trace-reconstructed-at t) trace-reconstructed.Post
-trace-reconstructed-add-t12 t c = search needs
-
-trace-reconstructed-enum-known-s : (t : ℕ) → trace-reconstructed-lts.Need-enum-known-s (reconstructed-claims t) (trace-reconstructed-at t) trace-reconstructed.Post
-trace-reconstructed-enum-known-s t c = search needs
-
-trace-reconstructed-add-t14 : (t : ℕ) → trace-reconstructed-lts.Need-add-t14 (reconstructed-claims t) (trace-reconstructed-at t) trace-reconstructed.Post
-trace-reconstructed-add-t14 t c = search needs
-
 trace-reconstructed-returns : (t : ℕ) → trace-reconstructed-lts.Need-returns (reconstructed-claims t) (trace-reconstructed-at t) trace-reconstructed.Post
 trace-reconstructed-returns t c =
     λ total f v h i l.
     let a = c .before .before .before .before .before .before .before .args in
     end-last v (a .row .0) h i (a .d) (a .passed) (a .p) _ (c .before .before .before .before .source-of .ensures total f v h i l) _ _ (c .before .before .s .given .1) (c .if1 .taken)
-
-trace-reconstructed-sub-trace-output : (t : ℕ) → trace-reconstructed-lts.Need-sub-trace-output (reconstructed-claims t) (trace-reconstructed-at t) trace-reconstructed.Post
-trace-reconstructed-sub-trace-output t c = search needs
-
-trace-reconstructed-add-trace-output : (t : ℕ) → trace-reconstructed-lts.Need-add-trace-output (reconstructed-claims t) (trace-reconstructed-at t) trace-reconstructed.Post
-trace-reconstructed-add-trace-output t c = search needs
 
 trace-reconstructed-trace-output-requires :
     (t : ℕ) → trace-reconstructed-lts.Need-trace-output-requires (reconstructed-claims t) (trace-reconstructed-at t) trace-reconstructed.Post
@@ -139,24 +106,24 @@ pub +trace-output+trace-reconstructed-spec : {M : Type 1} → statement M
     close μ-trace-output μ-trace-reconstructed (λ t. trace-output-lts.spec (output-claims t)
     (trace-output-at t)
     trace-output.Post
-    (trace-output-declared-in-requires t)
-    (trace-output-undone-requires t)
+    (search needs)
+    (search needs)
     (trace-output-trace-reconstructed-requires t)
     (trace-output-returns t))
     λ t. trace-reconstructed-lts.spec
     (reconstructed-claims t)
     (trace-reconstructed-at t)
     trace-reconstructed.Post
-    (trace-reconstructed-source-of-requires t)
-    (trace-reconstructed-enum-told t)
-    (trace-reconstructed-add-t11 t)
-    (trace-reconstructed-enum-told-2 t)
-    (trace-reconstructed-add-t12 t)
-    (trace-reconstructed-enum-known-s t)
-    (trace-reconstructed-add-t14 t)
+    (search needs)
+    (search needs)
+    (search needs)
+    (search needs)
+    (search needs)
+    (search needs)
+    (search needs)
     (trace-reconstructed-returns t)
-    (trace-reconstructed-sub-trace-output t)
-    (trace-reconstructed-add-trace-output t)
+    (search needs)
+    (search needs)
     (trace-reconstructed-trace-output-requires t)
     (trace-reconstructed-returns-2 t)
     (trace-reconstructed-returns-3 t)

@@ -55,9 +55,6 @@ claims t = (
   back-of-reads.Learnt,
 )
 
-undone-property-count-requires : (t : ℕ) → undone-lts.Need-property-count-requires (claims t) (undone-at t) undone.Post
-undone-property-count-requires t c κs = search needs
-
 undone-returns : (t : ℕ) → undone-lts.Need-returns (claims t) (undone-at t) undone.Post
 undone-returns t c =
     λ pl f v h.
@@ -65,32 +62,11 @@ undone-returns t c =
     let n = c .before .property-count .ensures (a .head .now) pl f v h in
     undone-none (boxesOf f (idOf f (a .row .0))) (a .j) (omega (arith, n, boxes-many f (idOf f (a .row .0)), c .if1 .taken)) (a .s) (a .p)
 
-undone-kind-of-requires : (t : ℕ) → undone-lts.Need-kind-of-requires (claims t) (undone-at t) undone.Post
-undone-kind-of-requires t c κs = search needs
-
-undone-is-transform-requires : (t : ℕ) → undone-lts.Need-is-transform-requires (claims t) (undone-at t) undone.Post
-undone-is-transform-requires t c κs = search needs
-
-undone-box-of-requires : (t : ℕ) → undone-lts.Need-box-of-requires (claims t) (undone-at t) undone.Post
-undone-box-of-requires t c κs = search needs
-
-undone-content-of-requires : (t : ℕ) → undone-lts.Need-content-of-requires (claims t) (undone-at t) undone.Post
-undone-content-of-requires t c κs = search needs
-
-undone-turn-of-requires : (t : ℕ) → undone-lts.Need-turn-of-requires (claims t) (undone-at t) undone.Post
-undone-turn-of-requires t c κs = search needs
-
 undone-add-undone : (t : ℕ) → undone-lts.Need-add-undone (claims t) (undone-at t) undone.Post
 undone-add-undone t c = omega (arith, c .before .before .before .before .before .before .if1 .left)
 
-undone-size-after-requires : (t : ℕ) → undone-lts.Need-size-after-requires (claims t) (undone-at t) undone.Post
-undone-size-after-requires t c κs = search needs
-
 undone-undone-requires : (t : ℕ) → undone-lts.Need-undone-requires (claims t) (undone-at t) undone.Post
 undone-undone-requires t c κs = (omega (arith, c .before .before .before .before .before .before .before .if1 .left, c .before .before .before .before .before .before .before .before .before .before .before .pre .0), tt)
-
-undone-back-of-requires : (t : ℕ) → undone-lts.Need-back-of-requires (claims t) (undone-at t) undone.Post
-undone-back-of-requires t c κs = search needs
 
 undone-returns-2 : (t : ℕ) → undone-lts.Need-returns-2 (claims t) (undone-at t) undone.Post
 undone-returns-2 t c =
@@ -125,17 +101,17 @@ pub +undone-spec : {M : Type 1} → statement M
 +undone-spec = close μ-undone λ t. undone-lts.spec (claims t)
     (undone-at t)
     undone.Post
-    (undone-property-count-requires t)
+    (search needs)
     (undone-returns t)
-    (undone-kind-of-requires t)
-    (undone-is-transform-requires t)
-    (undone-box-of-requires t)
-    (undone-content-of-requires t)
-    (undone-turn-of-requires t)
+    (search needs)
+    (search needs)
+    (λ c κs. search needs)
+    (search needs)
+    (search needs)
     (undone-add-undone t)
-    (undone-size-after-requires t)
+    (search needs)
     (undone-undone-requires t)
-    (undone-back-of-requires t)
+    (search needs)
     (undone-returns-2 t)
     (undone-add-undone-2 t)
     (undone-undone-requires-2 t)

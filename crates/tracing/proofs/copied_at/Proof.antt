@@ -4,9 +4,6 @@ use borrow.Author.Needs.{needs}
 use Rattle.tracing.proofs.copied_at.Statement.{statement}
 use Rattle.tracing.proofs.copied_at.Tie as tie
 
-input-row-requires : tie.Need-input-row-requires
-input-row-requires c κs = search needs
-
 returns : tie.Need-returns
 returns c =
     λ total head f d h q.
@@ -14,4 +11,4 @@ returns c =
     copied-source d (a .row .0) h q (c .input-row .result) (a .p) (c .input-row .ensures head _ f (d .view) h)
 
 pub copied-at-spec : {M : Type 1} → statement M
-copied-at-spec = tie.close (tie.spec input-row-requires returns)
+copied-at-spec = tie.close (tie.spec (search needs) returns)

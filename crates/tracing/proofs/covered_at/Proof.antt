@@ -5,33 +5,6 @@ use Rattle.tracing.proofs.LayerLaws.{side-read, covered-off-x, covered-
 use Rattle.tracing.proofs.covered_at.Statement.{statement}
 use Rattle.tracing.proofs.covered_at.Tie as tie
 
-be-id-requires : tie.Need-be-id-requires
-be-id-requires c κs = search needs
-
-side-of-requires : tie.Need-side-of-requires
-side-of-requires c κs = search needs
-
-add-be-id : tie.Need-add-be-id
-add-be-id c = search needs
-
-be-id-requires-2 : tie.Need-be-id-requires-2
-be-id-requires-2 c κs = search needs
-
-side-of-requires-2 : tie.Need-side-of-requires-2
-side-of-requires-2 c κs = search needs
-
-enum-told : tie.Need-enum-told
-enum-told c = search needs
-
-enum-known-x : tie.Need-enum-known-x
-enum-known-x c = search needs
-
-enum-told-2 : tie.Need-enum-told-2
-enum-told-2 c = search needs
-
-enum-known-y : tie.Need-enum-known-y
-enum-known-y c = search needs
-
 returns : tie.Need-returns
 returns c = let e = c .before .before .before .before .before .before in covered-off-x _ _ _ (sym (c .enum-told .given .1) ∙ side-read _ _ _ _ _ _ _ (e .shared-slice-known .given) (e .before .pre .0) (c .before .before .before .before .before .be-id .ensures) (c .before .before .before .before .side-of .ensures))
 
@@ -45,17 +18,5 @@ returns-3 c =
 
 pub covered-at-spec : {M : Type 1} → statement M
 covered-at-spec =
-    tie.close
-    (tie.spec
-    be-id-requires
-    side-of-requires
-    add-be-id
-    be-id-requires-2
-    side-of-requires-2
-    enum-told
-    enum-known-x
-    enum-told-2
-    enum-known-y
-    returns
-    returns-2
-    returns-3)
+    tie.close (tie.spec (λ c κs. search needs) (search needs) (search needs) (λ c κs. search needs) (search needs)
+    (search needs) (search needs) (search needs) (search needs) returns returns-2 returns-3)

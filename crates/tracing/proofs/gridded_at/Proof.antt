@@ -5,21 +5,6 @@ use borrow.Author.Needs.{needs}
 use Rattle.tracing.proofs.gridded_at.Statement.{statement}
 use Rattle.tracing.proofs.gridded_at.Tie as tie
 
-body-of-requires : tie.Need-body-of-requires
-body-of-requires c κs = search needs
-
-read-grid-requires : tie.Need-read-grid-requires
-read-grid-requires c κs = search needs
-
-enum-told : tie.Need-enum-told
-enum-told c = search needs
-
-enum-known-g : tie.Need-enum-known-g
-enum-known-g c = search needs
-
-tiled-at-requires : tie.Need-tiled-at-requires
-tiled-at-requires c κs = search needs
-
 returns : tie.Need-returns
 returns c =
     λ total f d h q i.
@@ -35,4 +20,6 @@ returns-2 c =
     c .tiled-at .ensures total _ f d h _ e refl i
 
 pub gridded-at-spec : {M : Type 1} → statement M
-gridded-at-spec = tie.close (tie.spec body-of-requires read-grid-requires enum-told enum-known-g tiled-at-requires returns returns-2)
+gridded-at-spec =
+    tie.close (tie.spec (λ c κs. search needs) (search needs) (search needs) (search needs) (search needs) returns
+    returns-2)

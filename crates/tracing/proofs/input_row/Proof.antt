@@ -5,18 +5,6 @@ use borrow.Author.Needs.{needs}
 use Rattle.tracing.proofs.input_row.Statement.{statement}
 use Rattle.tracing.proofs.input_row.Tie as tie
 
-target-of-requires : tie.Need-target-of-requires
-target-of-requires c κs = search needs
-
-row-named-requires : tie.Need-row-named-requires
-row-named-requires c κs = search needs
-
-enum-known-found : tie.Need-enum-known-found
-enum-known-found c = search needs
-
-enum-told : tie.Need-enum-told
-enum-told c = search needs
-
 returns : tie.Need-returns
 returns c =
     λ head pl f v h l.
@@ -30,4 +18,4 @@ returns-2 c =
     absurd (target-there v (idOf f (a .row .0)) (a .j) l _ (c .before .before .before .target-of .ensures head pl f v h l) _ (c .before .before .row-named .ensures head pl f v) (c .enum-told .given .1))
 
 pub input-row-spec : {M : Type 1} → statement M
-input-row-spec = tie.close (tie.spec target-of-requires row-named-requires enum-known-found enum-told returns returns-2)
+input-row-spec = tie.close (tie.spec (search needs) (search needs) (search needs) (search needs) returns returns-2)

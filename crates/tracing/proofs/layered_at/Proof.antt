@@ -8,23 +8,8 @@ use Rattle.tracing.proofs.LayerLaws.{overlay-read, layers-never, layers
 use Rattle.tracing.proofs.layered_at.Statement.{statement}
 use Rattle.tracing.proofs.layered_at.Tie as tie
 
-input-count-requires : tie.Need-input-count-requires
-input-count-requires c κs = search needs
-
 returns : tie.Need-returns
 returns c = λ total f v h e. absurd (omega (arith, inputs-few (v .view) (c .before .before .before .before .args .row .0) h, c .before .input-count .ensures (c .before .before .before .before .args .head .now) _ f (v .view) h))
-
-body-of-requires : tie.Need-body-of-requires
-body-of-requires c κs = search needs
-
-read-overlay-requires : tie.Need-read-overlay-requires
-read-overlay-requires c κs = search needs
-
-enum-told : tie.Need-enum-told
-enum-told c = search needs
-
-enum-known-o : tie.Need-enum-known-o
-enum-known-o c = search needs
 
 topmost-requires : tie.Need-topmost-requires
 topmost-requires c κs = let x = overlay-read _ _ _ _ _ (sym (c .before .o .given .1) ∙ c .before .before .before .read-overlay .ensures) in (x .0, omega arith, x .1, x .2)
@@ -37,14 +22,5 @@ returns-3 c = λ total f v h e. layers-source v (c .before .before .before .befo
 
 pub layered-at-spec : {M : Type 1} → statement M
 layered-at-spec =
-    tie.close
-    (tie.spec
-    input-count-requires
-    returns
-    body-of-requires
-    read-overlay-requires
-    enum-told
-    enum-known-o
-    topmost-requires
-    returns-2
-    returns-3)
+    tie.close (tie.spec (search needs) returns (λ c κs. search needs) (λ c κs. search needs) (search needs) (search needs)
+    topmost-requires returns-2 returns-3)

@@ -1,22 +1,10 @@
 -- `tracing::source_of` meets its contract, by the item's type; an image item of no other type is coded. Assumes nothing.
 use mathlib.Core.Path.{sym, _∙_}
 use borrow.Author.Needs.{needs}
-use Rattle.derived.proofs.InputLaws.{type-read}
+use Rattle.views.proofs.TableLaws.{type-read}
 use Rattle.tracing.proofs.TraceLaws.{coded-source}
 use Rattle.tracing.proofs.source_of.Statement.{statement}
 use Rattle.tracing.proofs.source_of.Tie as tie
-
-type-of-requires : tie.Need-type-of-requires
-type-of-requires c κs = search needs
-
-copied-at-requires : tie.Need-copied-at-requires
-copied-at-requires c κs = search needs
-
-gridded-at-requires : tie.Need-gridded-at-requires
-gridded-at-requires c κs = search needs
-
-layered-at-requires : tie.Need-layered-at-requires
-layered-at-requires c κs = search needs
 
 returns : tie.Need-returns
 returns c = λ total f v h i l. c .copied-at .ensures total _ f v h (sym (type-read (v .view) (c .before .before .before .before .before .args .row .0) h _ (c .before .before .type-of .ensures)) ∙ c .before .match .keys1)
@@ -34,13 +22,5 @@ returns-4 c = λ total f v h i l.
 
 pub source-of-spec : {M : Type 1} → statement M
 source-of-spec =
-    tie.close
-    (tie.spec
-    type-of-requires
-    copied-at-requires
-    gridded-at-requires
-    layered-at-requires
-    returns
-    returns-2
-    returns-3
+    tie.close (tie.spec (search needs) (search needs) (search needs) (search needs) returns returns-2 returns-3
     returns-4)

@@ -16,8 +16,9 @@ use Rattle.pictures.specs.Trace.{layerAt, blank}
 use Rattle.rules.specs.Joined.{targetsOf, itemAt}
 use Rattle.rules.specs.Derivations.{sceneOf}
 use Rattle.views.specs.View.{idOf}
+use Rattle.pictures.proofs.GridLaws.{four-at-most}
 use Rattle.tracing.specs.Told.{Shown}
-use Rattle.tracing.proofs.LayerLaws.{layer-none, narrow, offset-in, overlay-all, overlay-on, overlay-off}
+use Rattle.tracing.proofs.LayerLaws.{layer-none, offset-in, overlay-all, overlay-on, overlay-off}
 use Rattle.tracing.proofs.topmost.Statement.{statement}
 use Rattle.tracing.proofs.topmost.Tie as tie
 
@@ -30,35 +31,23 @@ abbrev μ-loop : tie.MeasureT-loop
 loop-holds : tie.Need-loop-holds Inv-loop μ-loop
 loop-holds c = (omega arith, λ total head f v h i o e q. overlay-all v (c .before .before .args .row .0) i _ _ _ o e q)
 
-sub-k : tie.Need-sub-k Inv-loop μ-loop
-sub-k c = search needs
-
-input-row-requires : tie.Need-input-row-requires Inv-loop μ-loop
-input-row-requires c κs = search needs
-
 mul-at : tie.Need-mul-at Inv-loop μ-loop
-mul-at c = omega (arith, narrow (c .before .before .before .before .before .args .bytes) (c .before .before .before .before .before .pre .0))
+mul-at c = omega (arith, four-at-most (c .before .before .before .before .before .args .bytes) (c .before .before .before .before .before .pre .0))
 
 add-at : tie.Need-add-at Inv-loop μ-loop
-add-at c = omega (arith, narrow (c .before .before .before .before .before .args .bytes) (c .before .before .before .before .before .pre .0))
+add-at c = omega (arith, four-at-most (c .before .before .before .before .before .args .bytes) (c .before .before .before .before .before .pre .0))
 
 mul-at-2 : tie.Need-mul-at-2 Inv-loop μ-loop
-mul-at-2 c = omega (arith, narrow (c .before .before .before .before .before .args .bytes) (c .before .before .before .before .before .pre .0))
+mul-at-2 c = omega (arith, four-at-most (c .before .before .before .before .before .args .bytes) (c .before .before .before .before .before .pre .0))
 
 mul-at-3 : tie.Need-mul-at-3 Inv-loop μ-loop
 mul-at-3 c = let a = c .before .before .before .before .before in let x = offset-in _ (c .before .before .loop .k - 1) _ _ (a .pre .0) (omega (arith, c .before .loop-test .taken, c .before .before .loop .inv .0)) (a .pre .1) (a .pre .2) in omega (arith, x .far)
 
 add-at-2 : tie.Need-add-at-2 Inv-loop μ-loop
-add-at-2 c = let a = c .before .before .before .before .before in let x = offset-in _ (c .before .before .loop .k - 1) _ _ (a .pre .0) (omega (arith, c .before .loop-test .taken, c .before .before .loop .inv .0)) (a .pre .1) (a .pre .2) in omega (arith, narrow (a .args .bytes) (a .pre .0), x .far)
-
-output-in-requires : tie.Need-output-in-requires Inv-loop μ-loop
-output-in-requires c κs = search needs
+add-at-2 c = let a = c .before .before .before .before .before in let x = offset-in _ (c .before .before .loop .k - 1) _ _ (a .pre .0) (omega (arith, c .before .loop-test .taken, c .before .before .loop .inv .0)) (a .pre .1) (a .pre .2) in omega (arith, four-at-most (a .args .bytes) (a .pre .0), x .far)
 
 covered-at-requires : tie.Need-covered-at-requires Inv-loop μ-loop
 covered-at-requires c κs = let a = c .before .before .before .before .before .before in let x = offset-in _ (c .before .before .before .loop .k - 1) _ _ (a .pre .0) (omega (arith, c .before .before .loop-test .taken, c .before .before .before .loop .inv .0)) (a .pre .1) (a .pre .2) in (a .pre .0, x .room)
-
-enum-known-c : tie.Need-enum-known-c Inv-loop μ-loop
-enum-known-c c = search needs
 
 returns : tie.Need-returns Inv-loop μ-loop
 returns c =
@@ -66,12 +55,6 @@ returns c =
     let g = c .before .before .before .before .before .before in
     let l = g .before .loop in
     overlay-on v (g .before .before .before .before .args .row .0) i _ _ _ o e q _ (g .before .before .before .before .pre .3) (l .k) (l .k - 1) (omega (arith, g .loop-test .taken)) (omega (arith, g .loop-test .taken, l .inv .0)) (c .before .before .before .before .before .input-row .result) (c .before .before .before .before .before .input-row .ensures head _ f (v .view) h) _ (c .before .before .before .before .output-in .ensures) (l .inv .1 total head f v h i o e q) _ (c .before .before .before .covered-at .ensures) _ (c .before .c .given .1)
-
-enum-told : tie.Need-enum-told Inv-loop μ-loop
-enum-told c = search needs
-
-loop-less : tie.Need-loop-less Inv-loop μ-loop
-loop-less c = search needs
 
 loop-again : tie.Need-loop-again Inv-loop μ-loop
 loop-again c = (
@@ -87,23 +70,6 @@ returns-2 c = λ total head f v h i o e q. layer-none _ _ _ _ (c .before .loop .
 
 pub topmost-spec : {M : Type 1} → statement M
 topmost-spec =
-    tie.close
-    (tie.spec
-    Inv-loop
-    μ-loop
-    loop-holds
-    sub-k
-    input-row-requires
-    mul-at
-    add-at
-    mul-at-2
-    mul-at-3
-    add-at-2
-    output-in-requires
-    covered-at-requires
-    enum-known-c
-    returns
-    enum-told
-    loop-less
-    loop-again
+    tie.close (tie.spec Inv-loop μ-loop loop-holds (search needs) (search needs) mul-at add-at mul-at-2 mul-at-3
+    add-at-2 (search needs) covered-at-requires (search needs) returns (search needs) (search needs) loop-again
     returns-2)

@@ -5,21 +5,6 @@ use borrow.Author.Needs.{needs}
 use Rattle.views.proofs.association_of.Statement.{statement}
 use Rattle.views.proofs.association_of.Tie as tie
 
-record-word-requires : tie.Need-record-word-requires
-record-word-requires c κs = search needs
-
-cast-first : tie.Need-cast-first
-cast-first c = search needs
-
-add-word : tie.Need-add-word
-add-word c = search needs
-
-add-word-2 : tie.Need-add-word-2
-add-word-2 c = search needs
-
-word-requires : tie.Need-word-requires
-word-requires c κs = search needs
-
 returns : tie.Need-returns
 returns c = λ head pl f v h l. named-read v (c .before .before .before .before .before .args .row .0) h (c .before .before .before .before .before .args .j) _ l (c .before .before .before .record-word .ensures) _ (c .word .ensures)
 
@@ -31,13 +16,5 @@ returns-3 c = λ head pl f v h l. absurd (omega (arith, named-inside v (c .befor
 
 pub association-of-spec : {M : Type 1} → statement M
 association-of-spec =
-    tie.close
-    (tie.spec
-    record-word-requires
-    cast-first
-    add-word
-    add-word-2
-    word-requires
-    returns
-    returns-2
-    returns-3)
+    tie.close (tie.spec (λ c κs. search needs) (search needs) (search needs) (search needs) (search needs) returns
+    returns-2 returns-3)

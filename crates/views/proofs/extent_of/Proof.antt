@@ -5,30 +5,6 @@ use borrow.Author.Needs.{needs}
 use Rattle.views.proofs.extent_of.Statement.{statement}
 use Rattle.views.proofs.extent_of.Tie as tie
 
-record-word-requires : tie.Need-record-word-requires
-record-word-requires c κs = search needs
-
-cast-first : tie.Need-cast-first
-cast-first c = search needs
-
-add-k : tie.Need-add-k
-add-k c = search needs
-
-mul-k : tie.Need-mul-k
-mul-k c = search needs
-
-add-k-2 : tie.Need-add-k-2
-add-k-2 c = search needs
-
-wide-requires : tie.Need-wide-requires
-wide-requires c κs = search needs
-
-add-wide : tie.Need-add-wide
-add-wide c = search needs
-
-wide-requires-2 : tie.Need-wide-requires-2
-wide-requires-2 c κs = search needs
-
 returns : tie.Need-returns
 returns c = λ head pl f v h l. extent-read v (c .before .before .before .before .before .before .args .row .0) h (c .before .before .before .before .before .before .args .j) _ l (c .before .before .before .before .record-word .ensures) _ _ (c .wide2 .ensures) (c .before .wide .ensures)
 
@@ -40,16 +16,5 @@ returns-3 c = λ head pl f v h l. absurd (omega (arith, extent-inside v (c .befo
 
 pub extent-of-spec : {M : Type 1} → statement M
 extent-of-spec =
-    tie.close
-    (tie.spec
-    record-word-requires
-    cast-first
-    add-k
-    mul-k
-    add-k-2
-    wide-requires
-    add-wide
-    wide-requires-2
-    returns
-    returns-2
-    returns-3)
+    tie.close (tie.spec (λ c κs. search needs) (search needs) (search needs) (search needs) (search needs)
+    (λ c κs. search needs) (search needs) (λ c κs. search needs) returns returns-2 returns-3)

@@ -4,17 +4,10 @@ use borrow.Author.Needs.{needs}
 use Rattle.views.proofs.is_image.Statement.{statement}
 use Rattle.views.proofs.is_image.Tie as tie
 
-is-coded-requires : tie.Need-is-coded-requires
-is-coded-requires c κs = search needs
-
-returns : tie.Need-returns
-returns c = rw (sym (c .before .is-coded .ensures) ∙ c .if1 .taken)
-
-is-derived-requires : tie.Need-is-derived-requires
-is-derived-requires c κs = search needs
-
 returns-2 : tie.Need-returns-2
 returns-2 c = rw (sym (c .before .before .is-coded .ensures) ∙ c .before .if1 .left) (c .is-derived .ensures)
 
 pub is-image-spec : {M : Type 1} → statement M
-is-image-spec = tie.close (tie.spec is-coded-requires returns is-derived-requires returns-2)
+is-image-spec =
+    tie.close (tie.spec (search needs) (λ c. rw (sym (c .before .is-coded .ensures) ∙ c .if1 .taken)) (search needs)
+    returns-2)

@@ -1,0 +1,54 @@
+-- The words of the questions.
+--   same s t       whether two words have the same bytes
+--   wordOf s       which question a word asks; Unknown where it is none of the six
+--   numbersOf w    how many numbers follow: an item's ID, then x and y of a pixel, or the number of a property
+use Prim.Native.Nat.{ℕ}
+use mathlib.Core.List.{List, [], _∷_}
+use mathlib.Core.Bool.{Bool, true, false, _&&_}
+use lib.Dec.{eqb}
+use Rattle.fields.specs.Choice.{pick}
+use Rattle.arguments.specs.declared.Word.{Word}
+use Rattle.arguments.specs.declared.Word.the-variants.{Verdict, Why, Size, Trace, Sources, Property, Unknown}
+
+unfoldable pub same : List ℕ → List ℕ → Bool
+same [] [] = true
+same [] (y ∷ t) = false
+same (x ∷ s) [] = false
+same (x ∷ s) (y ∷ t) = eqb x y && same s t
+
+-- in ASCII
+abbrev pub verdict : List ℕ
+verdict = 118 ∷ 101 ∷ 114 ∷ 100 ∷ 105 ∷ 99 ∷ 116 ∷ []
+
+abbrev pub why : List ℕ
+why = 119 ∷ 104 ∷ 121 ∷ []
+
+abbrev pub size : List ℕ
+size = 115 ∷ 105 ∷ 122 ∷ 101 ∷ []
+
+abbrev pub trace : List ℕ
+trace = 116 ∷ 114 ∷ 97 ∷ 99 ∷ 101 ∷ []
+
+abbrev pub sources : List ℕ
+sources = 115 ∷ 111 ∷ 117 ∷ 114 ∷ 99 ∷ 101 ∷ 115 ∷ []
+
+abbrev pub property : List ℕ
+property = 112 ∷ 114 ∷ 111 ∷ 112 ∷ 101 ∷ 114 ∷ 116 ∷ 121 ∷ []
+
+unfoldable pub wordOf : List ℕ → Word
+wordOf s =
+    pick (same s verdict) Verdict
+    (pick (same s why) Why
+    (pick (same s size) Size
+    (pick (same s trace) Trace
+    (pick (same s sources) Sources
+    (pick (same s property) Property Unknown)))))
+
+abbrev pub numbersOf : Word → ℕ
+numbersOf Verdict = 0
+numbersOf Why = 0
+numbersOf Size = 1
+numbersOf Trace = 3
+numbersOf Sources = 1
+numbersOf Property = 2
+numbersOf Unknown = 0

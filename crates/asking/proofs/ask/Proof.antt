@@ -1,0 +1,18 @@
+-- `asking::ask` is safe and ends: what was kept lies in the head. Assumes nothing.
+use mathlib.Core.Path.{subst}
+use Rattle.input.specs.Within.{Within}
+use borrow.Author.Needs.{needs}
+use Rattle.asking.proofs.ask.Statement.{statement}
+use Rattle.asking.proofs.ask.Tie as tie
+
+array-share-prefix-head : tie.Need-array-share-prefix-head
+array-share-prefix-head c = subst (Within _) (c .before .got .given .1) (c .before .before .before .before .read-input .ensures) .0 .0
+
+slice-aggregate-print-answer : tie.Need-slice-aggregate-print-answer
+slice-aggregate-print-answer c = subst (Within _) (c .before .before .got .given .1) (c .before .before .before .before .before .read-input .ensures) .0 .1
+
+pub ask-spec : {M : Type 1} → statement M
+ask-spec =
+    tie.close (tie.spec (λ c κs. search needs) (search needs) (λ c κs. search needs) (search needs)
+    (λ c κs. search needs) (search needs) array-share-prefix-head slice-aggregate-print-answer
+    (λ c κs. search needs) (λ c. search needs) (λ c. search needs))

@@ -1,0 +1,99 @@
+// The asking program: a still on standard input, a question in the arguments, one line of fields parted by tabs as the answer.
+mod answers;
+
+use arguments::Number;
+use arguments::Word;
+use input::Input;
+
+// A question's word and its numbers; those that it does not take are 0.
+struct Question {
+    word: Word,
+    id: u32,
+    x: u32,
+    y: u32,
+}
+
+enum Asked {
+    Is(Question),
+    Unclear,
+}
+
+// The number that argument i spells, or 0 where there are no more than i.
+fn number_at(i: usize) -> Number {
+    if os::arg_count() <= i {
+        return Number::Is(0);
+    }
+    let mut text = [0u8; 16];
+    let n = os::arg(i, &mut text);
+    arguments::number_of(&text[..n])
+}
+
+fn read_word() -> Word {
+    let mut text = [0u8; 16];
+    let n = os::arg(1, &mut text);
+    arguments::word_of(&text[..n])
+}
+
+// The question that the arguments ask, all of them and no more.
+fn read_question() -> Asked {
+    let word = read_word();
+    if let Word::Unknown = word {
+        return Asked::Unclear;
+    }
+    // The program's own name comes first, then the word.
+    let count = os::arg_count();
+    if count < 2 {
+        return Asked::Unclear;
+    }
+    if count - 2 != arguments::numbers_of(word) {
+        return Asked::Unclear;
+    }
+    let Number::Is(id) = number_at(2) else {
+        return Asked::Unclear;
+    };
+    let Number::Is(x) = number_at(3) else {
+        return Asked::Unclear;
+    };
+    let Number::Is(y) = number_at(4) else {
+        return Asked::Unclear;
+    };
+    Asked::Is(Question { word, id, x, y })
+}
+
+fn print_answer(q: Question, head: &[u8], total: u64) {
+    let mut table = input::new_table();
+    let word = q.word;
+    match word {
+        Word::Verdict => answers::print_verdict(head, total, &mut table),
+        Word::Why => answers::print_why(head, total, &mut table),
+        Word::Size => answers::print_size(head, total, &mut table, q.id),
+        Word::Trace => answers::print_trace(head, total, &mut table, q.id, q.x, q.y),
+        Word::Sources => answers::print_sources(head, total, &mut table, q.id),
+        Word::Property => answers::print_property(head, total, &mut table, q.id, q.x),
+        Word::Unknown => print_use(),
+    }
+}
+
+fn print_use() {
+    words::say(
+        2,
+        b"write: ./ask FILE verdict, or why, size ID, trace ID X Y, sources ID, property ID K; FILE - is standard input, numbers are decimal and at most 4294967295\n",
+    );
+}
+
+fn ask(q: Question) {
+    let mut head = io::large_buffer();
+    let got = input::read_input(&mut head);
+    match got {
+        Input::Failed => input::print_failed(),
+        Input::Is { here, total } => print_answer(q, &head[..here], total),
+    }
+}
+
+fn main() {
+    let asked = read_question();
+    match asked {
+        Asked::Unclear => print_use(),
+        Asked::Is(q) => ask(q),
+    }
+}

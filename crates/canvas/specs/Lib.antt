@@ -1,0 +1,4 @@
+pub mod Pose
+pub mod Part
+pub mod Margins
+pub mod Scale

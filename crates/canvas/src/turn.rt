@@ -1,0 +1,197 @@
+// Transforms as groups: what stands in one is in the coordinates of the picture before the transform.
+ghost use mathlib.Core.Path.{_≡_};
+ghost use Prim.Native.Nat.{_+_, _-_, _≤_};
+ghost use Rattle.pictures.specs.Turn.{Fits};
+ghost use Rattle.pictures.specs.declared.Turn.the-variants.{Crop};
+ghost use Rattle.canvas.specs.Margins.{marginsAfter};
+use crate::number::put;
+use crate::number::put_with;
+use crate::pose::pose_of;
+use crate::pose::put_pose;
+use pictures::Point;
+use pictures::Size;
+use pictures::Turn;
+
+// Where a turn takes the corner (0, 0), as an edge and not as a pixel.
+fn corner_after(t: Turn, s: Size) -> Point {
+    match t {
+        Turn::Left => Point { x: 0, y: s.wide },
+        Turn::Half => Point {
+            x: s.wide,
+            y: s.high,
+        },
+        Turn::Right => Point { x: s.high, y: 0 },
+        Turn::FlipX => Point { x: s.wide, y: 0 },
+        Turn::FlipY => Point { x: 0, y: s.high },
+        _ => Point { x: 0, y: 0 },
+    }
+}
+
+fn open_turned(t: Turn, s: Size) {
+    let c = corner_after(t, s);
+    put(b"<g transform='matrix(");
+    put_pose(pose_of(t));
+    put_with(b"", c.x);
+    put_with(b" ", c.y);
+    put(b")'>");
+}
+
+fn put_four(left: u32, top: u32, wide: u32, high: u32) {
+    put_with(b"", left);
+    put_with(b" ", top);
+    put_with(b" ", wide);
+    put_with(b" ", high);
+}
+
+// What is cut away is drawn around the picture itself and its copies, but not around a tile, which has neighbours.
+fn open_crop(left: u32, top: u32, wide: u32, high: u32, around: bool) {
+    if around {
+        put_with(b"<g transform='translate(-", left);
+        put_with(b" -", top);
+        put(b")'>");
+        return;
+    }
+    put_with(b"<svg width='", wide);
+    put_with(b"' height='", high);
+    put(b"' viewBox='");
+    put_four(left, top, wide, high);
+    put(b"'>");
+}
+
+// Begins the group of a transform of a picture of size s.
+pub fn open_turn(t: Turn, s: Size, around: bool) {
+    match t {
+        Turn::Stay => {}
+        Turn::Crop {
+            left,
+            top,
+            wide,
+            high,
+        } => open_crop(left, top, wide, high, around),
+        _ => open_turned(t, s),
+    }
+}
+
+// A frame with a hole in it.
+pub fn put_holed(class: &[u8], frame: Size, left: u32, top: u32, wide: u32, high: u32) {
+    put(b"<path class='");
+    put(class);
+    put_with(b"' d='M0 0H", frame.wide);
+    put_with(b"V", frame.high);
+    put_with(b"H0ZM", left);
+    put_with(b" ", top);
+    put_with(b"v", high);
+    put_with(b"h", wide);
+    put_with(b"v-", high);
+    put(b"z'/>");
+}
+
+// Ends it; what a crop cuts away is veiled.
+pub fn close_turn(t: Turn, s: Size, around: bool) {
+    match t {
+        Turn::Stay => {}
+        Turn::Crop {
+            left,
+            top,
+            wide,
+            high,
+        } => {
+            if around {
+                put_holed(b"cut", s, left, top, wide, high);
+                return put(b"</g>\n");
+            }
+            put(b"</svg>\n");
+        }
+        _ => put(b"</g>\n"),
+    }
+}
+
+// How much was cut away at each side of a picture.
+pub struct Margins {
+    pub left: u32,
+    pub top: u32,
+    pub right: u32,
+    pub bottom: u32,
+}
+
+// A margin to which so much is added. It wraps where no picture is.
+fn wider(margin: u32, more: u32) -> u32
+    ensures { λ r. ⌜ (margin + more ≤ 65535 → r ≡ margin + more) ⌝ }
+{
+    std::num::wrapping_add_u32(margin, more)
+}
+
+// What of a side lies behind a part of it.
+fn behind(side: u32, from: u32, part: u32) -> u32
+    ensures { λ r. ⌜ (from + part ≤ side → r ≡ side - (from + part)) ⌝ }
+{
+    std::num::wrapping_sub_u32(std::num::wrapping_sub_u32(side, from), part)
+}
+
+// A picture of size s before what lies in its margins was cut away.
+pub fn uncut(s: Size, m: Margins) -> Size
+    ensures { λ r. ⌜ (m .left + s .wide + m .right ≤ 65535 → m .top + s .high + m .bottom ≤ 65535 → (r .wide ≡ m .left + s .wide + m .right) × (r .high ≡ m .top + s .high + m .bottom)) ⌝ }
+{
+    Size {
+        wide: wider(wider(m.left, s.wide), m.right),
+        high: wider(wider(m.top, s.high), m.bottom),
+    }
+}
+
+// The margins of a picture of size s, which has margins m, after a crop.
+fn cropped(s: Size, m: Margins, left: u32, top: u32, wide: u32, high: u32) -> Margins
+    ensures { λ r. ⌜ (left + wide ≤ s .wide → top + high ≤ s .high → m .left + s .wide + m .right ≤ 65535 → m .top + s .high + m .bottom ≤ 65535 → r ≡ marginsAfter (Crop left top wide high) s m) ⌝ }
+{
+    Margins {
+        left: wider(m.left, left),
+        top: wider(m.top, top),
+        right: wider(m.right, behind(s.wide, left, wide)),
+        bottom: wider(m.bottom, behind(s.high, top, high)),
+    }
+}
+
+// After any transform.
+pub fn margins_after(t: Turn, s: Size, m: Margins) -> Margins
+    ensures { λ r. ⌜ (Fits t s → m .left + s .wide + m .right ≤ 65535 → m .top + s .high + m .bottom ≤ 65535 → r ≡ marginsAfter t s m) ⌝ }
+{
+    match t {
+        Turn::Stay => m,
+        Turn::Left => Margins {
+            left: m.top,
+            top: m.right,
+            right: m.bottom,
+            bottom: m.left,
+        },
+        Turn::Half => Margins {
+            left: m.right,
+            top: m.bottom,
+            right: m.left,
+            bottom: m.top,
+        },
+        Turn::Right => Margins {
+            left: m.bottom,
+            top: m.left,
+            right: m.top,
+            bottom: m.right,
+        },
+        Turn::FlipX => Margins {
+            left: m.right,
+            top: m.top,
+            right: m.left,
+            bottom: m.bottom,
+        },
+        Turn::FlipY => Margins {
+            left: m.left,
+            top: m.bottom,
+            right: m.right,
+            bottom: m.top,
+        },
+        Turn::Crop {
+            left,
+            top,
+            wide,
+            high,
+        } => cropped(s, m, left, top, wide, high),
+        Turn::Misfit => m,
+    }
+}

@@ -1,0 +1,127 @@
+-- Refusals 21 to 25: what is asked of a good file is refused exactly where the table of document 01 says. Assumes nothing.
+use Prim.Native.Nat.{ℕ, _-_, _≤_, _<_}
+use native.Mathlib.Omega.{arith}
+use mathlib.Core.Path.{_≡_, refl, sym, ap, subst, _∙_}
+use mathlib.Core.List.{List}
+use mathlib.Core.Bool.{Bool, true, false, _&&_}
+use mathlib.Core.Logic.{_⊎_, inl, inr}
+use lib.ListN.{length}
+use lib.Dec.{leb, ltb}
+use borrow.Author.Tests.{leb-true, leb-false, ltb-true, lt-ltb, le-ltb}
+use Rattle.fields.specs.Lists.{member}
+use Rattle.fields.proofs.TestLaws.{untrue, both-and}
+use Rattle.boxes.specs.Answer.{Answer, ok, refuse, check, _>>=_, _>>_}
+use Rattle.boxes.specs.Types.{image}
+use Rattle.boxes.proofs.AnswerLaws.{ok-bind, then-ok, ok-then, check-ok, ok-check, ok-inj, bind-assoc, bind-refuse}
+use Rattle.contents.specs.Iinf.{Item, idsOf}
+use Rattle.contents.specs.File.{File}
+use Rattle.pictures.specs.declared.Size.{Size}
+use Rattle.pictures.specs.declared.Point.{Point}
+use Rattle.pictures.specs.Turn.{Inside}
+use Rattle.pictures.specs.Scene.{Picture, Scene, pictureAt, outputOf}
+use Rattle.pictures.specs.Sources.{sources}
+use Rattle.rules.specs.Joined.{associationsOf, rowOf, itemAt}
+use Rattle.rules.specs.Places.{Places}
+use Rattle.rules.specs.Questions.{listed, pictured, sizeIn, traceIn, sourcesIn, propertyIn}
+use Rattle.demands.specs.Call.{IsListed, IsPicture, shownAs, SizeUnmet, unlisted, opaque, TraceUnmet, not-shown, outside, SourcesUnmet, not-derived, too-short, PropertyUnmet, not-listed, no-such}
+
+-- check, then more: the refusal is the test's, or that of what follows
+check-then : {A : Type 0} (n p : ℕ) (t : Bool) (m : Answer A) (a b : ℕ) → (check n p t >> m) ≡ refuse a b → ((a ≡ n) × (b ≡ p) × (t ≡ false)) ⊎ ((t ≡ true) × (m ≡ refuse a b))
+unfolding check _>>_
+check-then n p true m a b e = inr (refl, e)
+check-then n p false m a b e = inl ((cc), (cc), refl)
+
+never : {A B : Type 0} (x : A) (n p : ℕ) → ok x ≡ refuse n p → B
+never x n p e = let z : _≡_ {A = ℕ} 0 1 = cc in absurd (omega arith)
+
+-- a test of both coordinates, or of both bounds
+fails : (a b : Bool) → (a && b) ≡ false → (a ≡ false) ⊎ (b ≡ false)
+fails true b e = inr e
+fails false b e = inl refl
+
+check-bind : {A B : Type 0} (n p : ℕ) (t : Bool) (x : A) (k : A → Answer B) (a b : ℕ) → ((check n p t >> ok x) >>= k) ≡ refuse a b → ((a ≡ n) × (b ≡ p) × (t ≡ false)) ⊎ ((t ≡ true) × (k x ≡ refuse a b))
+unfolding check _>>_ _>>=_
+check-bind n p true x k a b e = inr (refl, e)
+check-bind n p false x k a b e = inl ((cc), (cc), refl)
+
+module _ (f : File) (id : ℕ) where
+  -- listed, pictured: where they answer
+  listed-is : IsListed f id → listed f id ≡ ok (rowOf id (f .items))
+  unfolding listed
+  listed-is e = ok-then _ _ tt (ok-check 21 id _ e)
+
+  pub pictured-is : IsPicture f id → pictured f id ≡ ok (rowOf id (f .items))
+  unfolding pictured
+  pictured-is e = ok-bind _ _ _ (listed-is (e .0)) ∙ ok-then _ _ tt (ok-check 22 id _ (e .1))
+
+  -- and where not
+  listed-unmet : (n p : ℕ) → listed f id ≡ refuse n p → (n ≡ 21) × (p ≡ id) × (member id (idsOf (f .items)) ≡ false)
+  unfolding listed
+  listed-unmet n p e = by (check-then 21 id _ _ n p e)
+    where
+      by : ((n ≡ 21) × (p ≡ id) × (member id (idsOf (f .items)) ≡ false)) ⊎ ((member id (idsOf (f .items)) ≡ true) × (ok (rowOf id (f .items)) ≡ refuse n p)) → (n ≡ 21) × (p ≡ id) × (member id (idsOf (f .items)) ≡ false)
+      by (inl x) = x
+      by (inr x) = never _ n p (x .1)
+
+  listed-ok : (r : ℕ) → listed f id ≡ ok r → IsListed f id × (rowOf id (f .items) ≡ r)
+  unfolding listed
+  listed-ok r e = let x = then-ok _ _ r e in (check-ok 21 id _ (x .0) (x .1), ok-inj _ _ (x .2))
+
+  -- a question of a listed item
+  listed-or : {A : Type 0} (k : ℕ → Answer A) (n p : ℕ) → (listed f id >>= k) ≡ refuse n p → ((n ≡ 21) × (p ≡ id) × (member id (idsOf (f .items)) ≡ false)) ⊎ (IsListed f id × (k (rowOf id (f .items)) ≡ refuse n p))
+  listed-or {A} k n p e = by (bind-refuse (listed f id) k n p e)
+    where
+      by : (listed f id ≡ refuse n p) ⊎ ((r : ℕ) × (listed f id ≡ ok r) × (k r ≡ refuse n p)) → ((n ≡ 21) × (p ≡ id) × (member id (idsOf (f .items)) ≡ false)) ⊎ (IsListed f id × (k (rowOf id (f .items)) ≡ refuse n p))
+      by (inl x) = inl (listed-unmet n p x)
+      by (inr (r, x, y)) = let z = listed-ok r x in inr (z .0, ap k (z .1) ∙ y)
+
+  pictured-or : {A : Type 0} (k : ℕ → Answer A) (n p : ℕ) → (pictured f id >>= k) ≡ refuse n p → (SizeUnmet f id n × (p ≡ id)) ⊎ (IsPicture f id × (k (rowOf id (f .items)) ≡ refuse n p))
+  unfolding pictured
+  pictured-or {A} k n p e = by (listed-or _ n p (sym (bind-assoc (listed f id) _ k) ∙ e))
+    where
+      next : IsListed f id → ((n ≡ 22) × (p ≡ id) × (image (itemAt f (rowOf id (f .items)) .type) ≡ false)) ⊎ ((image (itemAt f (rowOf id (f .items)) .type) ≡ true) × (k (rowOf id (f .items)) ≡ refuse n p)) → (SizeUnmet f id n × (p ≡ id)) ⊎ (IsPicture f id × (k (rowOf id (f .items)) ≡ refuse n p))
+      next l (inl x) = inl (opaque (x .0) l (x .2), x .1)
+      next l (inr x) = inr ((l, x .0), x .1)
+
+      by : ((n ≡ 21) × (p ≡ id) × (member id (idsOf (f .items)) ≡ false)) ⊎ (IsListed f id × (((check 22 id (image (itemAt f (rowOf id (f .items)) .type)) >> ok (rowOf id (f .items))) >>= k) ≡ refuse n p)) → (SizeUnmet f id n × (p ≡ id)) ⊎ (IsPicture f id × (k (rowOf id (f .items)) ≡ refuse n p))
+      by (inl x) = inl (unlisted (x .0) (x .2), x .1)
+      by (inr x) = next (x .0) (check-bind 22 id _ (rowOf id (f .items)) k n p (x .1))
+
+  -- the questions
+  pub size-unmet : (s : Scene) (n p : ℕ) → sizeIn s f id ≡ refuse n p → SizeUnmet f id n × (p ≡ id)
+  unfolding sizeIn
+  size-unmet s n p e = elim (pictured-or _ n p e) [ inl x ↦ x | inr x ↦ never _ n p (x .1) ]
+
+  pub trace-unmet : (s : Scene) (q : Point) (n p : ℕ) → traceIn s f id q ≡ refuse n p → TraceUnmet s f id q n × (p ≡ id)
+  unfolding traceIn
+  trace-unmet s q n p e = elim (pictured-or _ n p e) [ inl x ↦ (not-shown (x .0), x .1) | inr x ↦ last (x .0) (check-then 23 id _ _ n p (x .1)) ]
+    where
+      z : Size
+      z = outputOf (shownAs s f id)
+
+      beyond : (ltb (q .x) (z .wide) && ltb (q .y) (z .high)) ≡ false → Inside z q → ⊥
+      beyond e i = untrue (sym e ∙ both-and _ _ (lt-ltb _ _ (i .in-x)) (lt-ltb _ _ (i .in-y)))
+
+      last : {A : Type 0} {a : A} → IsPicture f id → ((n ≡ 23) × (p ≡ id) × ((ltb (q .x) (z .wide) && ltb (q .y) (z .high)) ≡ false)) ⊎ (((ltb (q .x) (z .wide) && ltb (q .y) (z .high)) ≡ true) × (ok a ≡ refuse n p)) → TraceUnmet s f id q n × (p ≡ id)
+      last i (inl x) = (outside (x .0) i (beyond (x .2)), x .1)
+      last i (inr x) = never _ n p (x .1)
+
+  pub sources-unmet : (s : Scene) (room n p : ℕ) → sourcesIn s f id room ≡ refuse n p → SourcesUnmet s f id room n × (p ≡ id)
+  unfolding sourcesIn
+  sources-unmet s room n p e = elim (pictured-or _ n p e) [ inl x ↦ (not-derived (x .0), x .1) | inr x ↦ last (x .0) (check-then 24 id _ _ n p (x .1)) ]
+    where
+      last : {A : Type 0} {a : A} → IsPicture f id → ((n ≡ 24) × (p ≡ id) × (leb (length (sources s (rowOf id (f .items)))) room ≡ false)) ⊎ ((leb (length (sources s (rowOf id (f .items)))) room ≡ true) × (ok a ≡ refuse n p)) → SourcesUnmet s f id room n × (p ≡ id)
+      last i (inl x) = (too-short (x .0) i (leb-false _ _ (x .2)), x .1)
+      last i (inr x) = never _ n p (x .1)
+
+  pub property-unmet : (pl : Places) (k n p : ℕ) → propertyIn pl f id k ≡ refuse n p → PropertyUnmet f id k n × (p ≡ id)
+  unfolding propertyIn
+  property-unmet pl k n p e = elim (listed-or _ n p e) [ inl x ↦ (not-listed (x .0) (x .2), x .1) | inr x ↦ last (x .0) (check-then 25 id _ _ n p (x .1)) ]
+    where
+      which : (leb 1 k ≡ false) ⊎ (leb k (length (associationsOf f id)) ≡ false) → (k ≡ 0) ⊎ (length (associationsOf f id) < k)
+      which (inl h) = let y = leb-false 1 k h in inl (omega arith)
+      which (inr h) = inr (leb-false _ _ h)
+
+      last : {A : Type 0} {a : A} → IsListed f id → ((n ≡ 25) × (p ≡ id) × ((leb 1 k && leb k (length (associationsOf f id))) ≡ false)) ⊎ (((leb 1 k && leb k (length (associationsOf f id))) ≡ true) × (ok a ≡ refuse n p)) → PropertyUnmet f id k n × (p ≡ id)
+      last i (inl x) = (no-such (x .0) i (which (fails (leb 1 k) _ (x .2))), x .1)
+      last i (inr x) = never _ n p (x .1)

@@ -1,0 +1,40 @@
+-- A refusal that is told is the answer's. Assumes nothing.
+use Prim.Native.Nat.{ℕ}
+use native.Mathlib.Omega.{arith}
+use mathlib.Core.Path.{_≡_, refl}
+use mathlib.Core.List.{List}
+use mathlib.Core.Bool.{Bool, true, false}
+use Rattle.boxes.specs.declared.Refusal.{Refusal}
+use Rattle.boxes.specs.Answer.{Answer, ok, refuse}
+use Rattle.rules.specs.Questions as Q
+use Rattle.still.specs.declared.FileVerdict.the-variants as verdict
+use Rattle.still.specs.declared.Sized.the-variants as sized
+use Rattle.still.specs.declared.Traced.the-variants as traced
+use Rattle.still.specs.declared.Listed.the-variants as listed
+use Rattle.still.specs.Told.{toldVerdict, toldSized, toldFound, toldTraced, toldListed}
+
+-- what an answer of any kind is, told by a function that tells refusals by `off` and nothing else by it
+told-refused : {A B : Type 0} (told : Answer A → B) (off : Refusal → B) → ((x : A) (y : Refusal) → told (ok x) ≡ off y → ⊥) → ((n p : ℕ) (y : Refusal) → told (refuse n p) ≡ off y → (n ≡ y .number) × (p ≡ y .place)) → (m : Answer A) (y : Refusal) → told m ≡ off y → m ≡ refuse (y .number) (y .place)
+told-refused told off apart same (ok x) y e = absurd (apart x y e)
+told-refused told off apart same (refuse n p) y e = let k = same n p y e in rw (k .0, k .1)
+
+pub verdict-told : (m : Answer Q.Verdict) (y : Refusal) → toldVerdict m ≡ verdict.Refused y → m ≡ refuse (y .number) (y .place)
+unfolding toldVerdict
+verdict-told = told-refused toldVerdict verdict.Refused (λ x y e. let z : _≡_ {A = ℕ} 0 1 = cc in omega arith) (λ n p y e. ((cc), (cc)))
+
+pub size-told : (m : Answer Q.Sized) (y : Refusal) → toldSized m ≡ sized.Refused y → m ≡ refuse (y .number) (y .place)
+unfolding toldSized
+size-told = told-refused toldSized sized.Refused (λ x y e. let z : _≡_ {A = ℕ} 0 1 = cc in omega arith) (λ n p y e. ((cc), (cc)))
+
+found-told : (b : Bool) (x : Q.Found) (y : Refusal) → toldFound b x ≡ traced.Refused y → ⊥
+unfolding toldFound
+found-told true x y e = let z : _≡_ {A = ℕ} 0 1 = cc in omega arith
+found-told false x y e = let z : _≡_ {A = ℕ} 0 1 = cc in omega arith
+
+pub trace-told : (m : Answer Q.Found) (y : Refusal) → toldTraced m ≡ traced.Refused y → m ≡ refuse (y .number) (y .place)
+unfolding toldTraced
+trace-told = told-refused toldTraced traced.Refused (λ x y e. found-told (x .isFill) x y e) (λ n p y e. ((cc), (cc)))
+
+pub sources-told : (m : Answer (List ℕ)) (y : Refusal) → toldListed m ≡ listed.Refused y → m ≡ refuse (y .number) (y .place)
+unfolding toldListed
+sources-told = told-refused toldListed listed.Refused (λ x y e. let z : _≡_ {A = ℕ} 0 1 = cc in omega arith) (λ n p y e. ((cc), (cc)))

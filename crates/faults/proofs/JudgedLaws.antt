@@ -1,0 +1,350 @@
+-- Judging gives the first fault, and no refusal exactly where there is none. Assumes nothing.
+use Prim.Native.Nat.{ℕ, zero, suc, _+_, _≤_, _<_}
+use native.Mathlib.Nat.{add-zero, zero-add}
+use native.Mathlib.Decide.{decLt}
+use native.Mathlib.Omega.{arith}
+use mathlib.Core.Path.{_≡_, refl, sym, ap, subst, _∙_}
+use mathlib.Core.List.{List, [], _∷_, map}
+use mathlib.Core.Bool.{Bool, true, false, _&&_}
+use mathlib.Core.Logic.{_⊎_, inl, inr}
+use lib.ListN.{length, getD}
+use lib.Dec.{eqb}
+use borrow.Author.Tests.{eqb-true, eq-eqb}
+use Rattle.fields.specs.Choice.{pick}
+use Rattle.fields.proofs.FieldLaws.{both}
+use Rattle.fields.proofs.TestLaws.{untrue, and-both, both-and}
+use Rattle.boxes.specs.Answer.{Answer, ok, refuse, _>>_}
+use Rattle.boxes.specs.Types.{image}
+use Rattle.contents.specs.Iinf.{Item}
+use Rattle.contents.specs.File.{File}
+use Rattle.pictures.specs.Turn.{AllFit}
+use Rattle.pictures.specs.Scene.{Picture, Scene, pictureAt, outputOf, goodSize}
+use Rattle.pictures.specs.Depth.{depth, derivesItself}
+use Rattle.pictures.proofs.DecodeLaws.{turns-fit}
+use Rattle.pictures.proofs.DepthLaws.{itself-derives, derives-itself}
+use Rattle.rules.specs.Joined.{locationOf, boxesOf, typesOf, noItem, itemAt}
+use Rattle.rules.specs.Derivations.{sceneOf}
+use Rattle.rules.specs.Rules.{inOrder, byDepth, rule12, rule13-14, rule15-16, rule17, rule18, rule19, rule20, judged}
+use Rattle.rules.proofs.SceneLaws.{turns-at}
+use Rattle.faults.specs.Fault.{Rule, Number, n12, n13, n14, n15, n16, n17, n18, n19, n20, sourceOf, ruleOf, Fault}
+use Rattle.faults.specs.Order.{Earlier, turnOf, First}
+use Rattle.faults.proofs.TellsLaws.{Tells, tells-as, tells-not, tells-most}
+use Rattle.faults.proofs.FaultLaws.{tells-primary, tells-place, tells-bytes, tells-readable, tells-ispe}
+use Rattle.faults.proofs.DerivationLaws.{rule-17-there, rule-17-absent}
+use Rattle.faults.proofs.SizeLaws.{tells-sizes}
+use Rattle.faults.proofs.FirstLaws.{turn-stage, turn-lap, Finds, Examines, Just, examines-one, examines-check, just-apart, examines-none, examines-then, examines-as, Within, Rows, examines-rows}
+
+-- Earlier: of two lists as long as each other, one is earlier or they are the same
+ordered : (xs ys : List ℕ) → length xs ≡ length ys → Earlier xs ys ⊎ ((xs ≡ ys) ⊎ Earlier ys xs)
+ordered [] [] e = inr (inl refl)
+ordered [] (y ∷ ys) e = absurd (omega arith)
+ordered (x ∷ xs) [] e = absurd (omega arith)
+ordered (x ∷ xs) (y ∷ ys) e = elim (decLt x y) [ yes l ↦ inl (inl l) | no n ↦ elim (decLt y x) [ yes l ↦ inr (inr (inl l)) | no m ↦ same (omega (arith, n, m)) (ordered xs ys (omega arith)) ] ]
+  where
+    same : x ≡ y → Earlier xs ys ⊎ ((xs ≡ ys) ⊎ Earlier ys xs) → Earlier (x ∷ xs) (y ∷ ys) ⊎ (((x ∷ xs) ≡ (y ∷ ys)) ⊎ Earlier (y ∷ ys) (x ∷ xs))
+    same q (inl e) = inl (inr (q, e))
+    same q (inr (inl e)) = inr (inl (cc))
+    same q (inr (inr e)) = inr (inr (inr (sym q, e)))
+
+-- Number: a number names one rule
+abbrev ofNumber : ℕ → Number
+ofNumber k =
+    pick (eqb k 12) n12 (pick (eqb k 13) n13 (pick (eqb k 14) n14 (pick (eqb k 15) n15 (pick (eqb k 16) n16 (pick (eqb k 17) n17 (pick (eqb k 18) n18 (pick (eqb k 19) n19 n20)))))))
+
+module _ (total : ℕ) (head : List ℕ) (f : File) where
+  numbered : (n : Number) → ofNumber (ruleOf total head f n .number) ≡ n
+  unfolding pick
+  numbered n12 = refl
+  numbered n13 = refl
+  numbered n14 = refl
+  numbered n15 = refl
+  numbered n16 = refl
+  numbered n17 = refl
+  numbered n18 = refl
+  numbered n19 = refl
+  numbered n20 = refl
+
+  one-number : (n m : Number) → ruleOf total head f n .number ≡ ruleOf total head f m .number → n ≡ m
+  one-number n m e = sym (numbered n) ∙ ap ofNumber e ∙ numbered m
+
+module _ (total : ℕ) (head : List ℕ) (f : File) where
+  abbrev s : Scene
+  s = sceneOf total head f
+
+  abbrev F : Number → ℕ → Type 0
+  F n r = Fault total head f n r
+
+  abbrev Ex : Answer (Unit {0}) → (Number → ℕ → Type 0) → Type 0
+  Ex m In = Examines total head f m In
+
+  abbrev J : Number → ℕ → Number → ℕ → Type 0
+  J n r m q = Just total head f n r m q
+
+  -- a fault of a listed row is told by the test of its rule
+  told : (n : Number) (r : ℕ) {t : Bool} → r < ruleOf total head f n .rows → Tells t (ruleOf total head f n .Wrong r) → Tells t (F n r)
+  told n r l k = tells-as (λ w. record { listed = l; there = w }) (λ w. w .there) k
+
+  just-fault : (n : Number) (r : ℕ) (m : Number) (q : ℕ) → J n r m q → F m q → F n r
+  just-fault n r m q i w = subst (λ (q : ℕ). F n q) (i .1) (subst (λ (m : Number). F m q) (i .0) w)
+
+  just-within : (n : Number) (stage lap r : ℕ) → ruleOf total head f n .stage ≡ stage → ruleOf total head f n .lap r ≡ lap → Within total head f stage lap r (J n r)
+  just-within n stage lap r a b =
+      record {
+        stage-is = λ m q i. ap (λ (m : Number). ruleOf total head f m .stage) (i .0) ∙ a;
+        lap-is = λ m q i. ap (λ (m : Number). ruleOf total head f m .lap q) (i .0) ∙ ap (ruleOf total head f n .lap) (i .1) ∙ b;
+        row-is = λ m q i. i .1;
+      }
+
+  -- the faults of two numbers in one row
+  abbrev Two : Number → Number → ℕ → Number → ℕ → Type 0
+  Two a b r m q = J a r m q ⊎ J b r m q
+
+  two-within : (a b : Number) (stage lap r : ℕ) → Within total head f stage lap r (J a r) → Within total head f stage lap r (J b r) → Within total head f stage lap r (Two a b r)
+  two-within a b stage lap r x y = record { stage-is = st; lap-is = la; row-is = ro }
+    where
+      st : (m : Number) (q : ℕ) → Two a b r m q → ruleOf total head f m .stage ≡ stage
+      st m q (inl i) = x .stage-is m q i
+      st m q (inr i) = y .stage-is m q i
+
+      la : (m : Number) (q : ℕ) → Two a b r m q → ruleOf total head f m .lap q ≡ lap
+      la m q (inl i) = x .lap-is m q i
+      la m q (inr i) = y .lap-is m q i
+
+      ro : (m : Number) (q : ℕ) → Two a b r m q → q ≡ r
+      ro m q (inl i) = x .row-is m q i
+      ro m q (inr i) = y .row-is m q i
+
+  -- 20, of a picture of depth d
+  abbrev At : ℕ → ℕ → Number → ℕ → Type 0
+  At d r m q = J n20 r m q × (depth s r ≡ d)
+
+  at-within : (d r : ℕ) → Within total head f 6 d r (At d r)
+  at-within d r =
+      record {
+        stage-is = λ m q i. ap (λ (m : Number). ruleOf total head f m .stage) (i .0 .0);
+        lap-is = λ m q i. ap (λ (m : Number). ruleOf total head f m .lap q) (i .0 .0) ∙ ap (depth s) (i .0 .1) ∙ i .1;
+        row-is = λ m q i. i .0 .1;
+      }
+
+  module _ (r : ℕ) (l : r < length (f .items)) where
+    placed-examined : Ex (rule13-14 total head f (itemAt f r)) (Two n13 n14 r)
+    unfolding rule13-14
+    placed-examined =
+        examines-then total head f _ _ (J n13 r) (J n14 r) (just-apart total head f n13 n14 r (omega arith) (omega arith) (omega arith))
+        (examines-check total head f n13 r _ (told n13 r l (tells-place (locationOf f (itemAt f r .id)))))
+        (examines-check total head f n14 r _ (told n14 r l (tells-bytes (sourceOf total head f r) (locationOf f (itemAt f r .id)) (itemAt f r .type))))
+
+    -- no fault of image items in an opaque one's row
+    opaque-two : image (itemAt f r .type) ≡ false → (m : Number) (q : ℕ) → Two n15 n16 r m q → F m q → ⊥
+    opaque-two e m q (inl i) w = untrue (sym e ∙ just-fault n15 r m q i w .there .0)
+    opaque-two e m q (inr i) w = untrue (sym e ∙ just-fault n16 r m q i w .there .0)
+
+    declared-examined : Ex (rule15-16 f (itemAt f r)) (Two n15 n16 r)
+    unfolding rule15-16
+    declared-examined =
+        both (λ (m : Answer (Unit {0})). Ex m (Two n15 n16 r)) (image (itemAt f r .type)) _ _
+        (λ e. examines-then total head f _ _ (J n15 r) (J n16 r) (just-apart total head f n15 n16 r (omega arith) (omega arith) (omega arith))
+        (examines-check total head f n15 r _ (told n15 r l (tells-as (λ w. (e, w)) (λ w. w .1) (tells-readable f (itemAt f r)))))
+        (examines-check total head f n16 r _ (told n16 r l (tells-as (λ w. (e, w)) (λ w. w .1) (tells-ispe (typesOf f (itemAt f r .id)))))))
+        (λ e. examines-none total head f _ (opaque-two e))
+
+    derived-examined : Ex (rule17 total head f (itemAt f r)) (J n17 r)
+    derived-examined =
+        examines-one total head f n17 r _
+        (λ e w. rule-17-absent total head f (itemAt f r) e (w .there))
+        (λ k p e. let x = rule-17-there total head f (itemAt f r) k p e in (x .0, record { listed = l; there = x .1 }))
+
+    itself-examined : Ex (rule18 s r (itemAt f r)) (J n18 r)
+    unfolding rule18
+    itself-examined = examines-check total head f n18 r _ (told n18 r l (tells-as (itself-derives s r) (derives-itself s r) (tells-not (derivesItself s r))))
+
+    deep-examined : Ex (rule19 s r (itemAt f r)) (J n19 r)
+    unfolding rule19
+    deep-examined = examines-check total head f n19 r _ (told n19 r l (tells-most (depth s r) 16))
+
+    sizes-tell : image (itemAt f r .type) ≡ true → goodSize (outputOf (pictureAt s r)) ≡ true → AllFit (pictureAt s r .turns) (pictureAt s r .declared)
+    unfolding outputOf
+    sizes-tell e g = rw (turns-at total head f r e) (turns-fit (boxesOf f (itemAt f r .id)) (pictureAt s r .declared) (rw (turns-at total head f r e) at g))
+
+    sized-examined : (d : ℕ) → Ex (rule20 s d r (itemAt f r)) (At d r)
+    unfolding rule20
+    sized-examined d =
+        both (λ (m : Answer (Unit {0})). Ex m (At d r)) (image (itemAt f r .type) && eqb (depth s r) d) _ _
+        (λ e. let k = and-both (image (itemAt f r .type)) _ e in
+        examines-as total head f _ (J n20 r) (At d r) (λ m q i. (i, eqb-true _ _ (k .1))) (λ m q w i. i .0)
+        (examines-check total head f n20 r _ (told n20 r l (tells-as (λ w. (k .0, w)) (λ w. w .1) (tells-sizes s (pictureAt s r) (sizes-tell (k .0)))))))
+        (λ e. examines-none total head f _ (λ m q i w. untrue (sym e ∙ both-and _ _ (just-fault n20 r m q (i .0) w .there .0) (eq-eqb _ _ (i .1)))))
+
+  -- inOrder: the rules of a stage, row by row
+  abbrev Stage : (ℕ → Number → ℕ → Type 0) → Number → ℕ → Type 0
+  Stage In m q = Rows total head f In 0 (length (f .items)) m q
+
+  stage-examined : (g : ℕ → Item → Answer (Unit {0})) (In : ℕ → Number → ℕ → Type 0) (stage lap : ℕ) → ((r : ℕ) → Within total head f stage lap r (In r)) → ((r : ℕ) → r < length (f .items) → Ex (g r (itemAt f r)) (In r)) → Ex (inOrder g 0 (f .items)) (Stage In)
+  stage-examined g In stage lap w h = examines-rows total head f g In stage lap w 0 (f .items) (λ j l. rw zero-add (h j l))
+
+  -- byDepth
+  abbrev Laps : ℕ → ℕ → Number → ℕ → Type 0
+  Laps n d m q = (e : ℕ) × (e < n) × Stage (At (d + e)) m q
+
+  depths-examined : (n d : ℕ) → Ex (byDepth s (f .items) n d) (Laps n d)
+  unfolding byDepth
+  depths-examined zero d = examines-none total head f _ (λ m q i w. let z = i .1 in omega arith)
+  depths-examined (suc n) d =
+      examines-as total head f _ _ _ to from
+      (examines-then total head f _ _ (Stage (At d)) (Laps n (suc d)) apart (stage-examined (rule20 s d) (At d) 6 d (at-within d) (λ r l. sized-examined r l d)) (depths-examined n (suc d)))
+    where
+      apart : (a : Number) (r : ℕ) (m : Number) (q : ℕ) → Stage (At d) a r → Laps n (suc d) m q → Earlier (turnOf total head f m q) (turnOf total head f a r) → ⊥
+      apart a r m q i j y =
+          let x = at-within d (0 + i .0) in
+          let z = at-within (suc d + j .0) (0 + j .2 .0) in
+          let xs = x .stage-is a r (i .2) in
+          let zs = z .stage-is m q (j .2 .2) in
+          let xl = x .lap-is a r (i .2) in
+          let zl = z .lap-is m q (j .2 .2) in
+          let h = turn-lap total head f m q a r (omega arith) y in
+          omega arith
+
+      to : (m : Number) (q : ℕ) → Stage (At d) m q ⊎ Laps n (suc d) m q → Laps (suc n) d m q
+      to m q (inl i) = (0, (omega arith), rw add-zero i)
+      to m q (inr j) = let z : suc d + j .0 ≡ d + suc (j .0) = omega arith in (suc (j .0), (omega (arith, j .1)), rw z at (j .2))
+
+      from : (m : Number) (q : ℕ) → F m q → Laps (suc n) d m q → Stage (At d) m q ⊎ Laps n (suc d) m q
+      from m q w c = by (c .0) (c .1) (c .2)
+        where
+          by : (e : ℕ) → e < suc n → Stage (At (d + e)) m q → Stage (At d) m q ⊎ Laps n (suc d) m q
+          by zero l i = inl (rw add-zero at i)
+          by (suc e) l i = let z : d + suc e ≡ suc d + e = omega arith in inr (e, (omega arith), rw z at i)
+
+  -- one stage after the others
+  abbrev Below : ℕ → (Number → ℕ → Type 0) → Type 0
+  Below k In = (n : Number) (r : ℕ) → In n r → ruleOf total head f n .stage < k
+
+  abbrev IsStage : ℕ → (Number → ℕ → Type 0) → Type 0
+  IsStage k In = (n : Number) (r : ℕ) → In n r → ruleOf total head f n .stage ≡ k
+
+  rows-stage : (In : ℕ → Number → ℕ → Type 0) (k lap : ℕ) → ((r : ℕ) → Within total head f k lap r (In r)) → IsStage k (Stage In)
+  rows-stage In k lap w n r i = w (0 + i .0) .stage-is n r (i .2)
+
+  laps-stage : IsStage 6 (Laps 17 0)
+  laps-stage n r i = at-within (0 + i .0) (0 + i .2 .0) .stage-is n r (i .2 .2)
+
+  next-stage : (k : ℕ) (a b : Answer (Unit {0})) (A B : Number → ℕ → Type 0) → Ex a A × Below k A → Ex b B → IsStage k B → Ex (a >> b) (λ n r. A n r ⊎ B n r) × Below (suc k) (λ n r. A n r ⊎ B n r)
+  next-stage k a b A B x y st = (examines-then total head f a b A B (λ n r m q i j e. let h = turn-stage total head f m q n r e in let g = x .1 n r i in let z = st m q j in omega arith) (x .0) y, low)
+    where
+      low : Below (suc k) (λ n r. A n r ⊎ B n r)
+      low n r (inl i) = let g = x .1 n r i in omega arith
+      low n r (inr j) = let z = st n r j in omega arith
+
+  -- judged
+  abbrev Early : Number → ℕ → Type 0
+  Early n r = ((((J n12 0 n r ⊎ Stage (Two n13 n14) n r) ⊎ Stage (Two n15 n16) n r) ⊎ Stage (J n17) n r) ⊎ Stage (J n18) n r) ⊎ Stage (J n19) n r
+
+  abbrev Asked : Number → ℕ → Type 0
+  Asked n r = Early n r ⊎ Laps 17 0 n r
+
+  primary-examined : Ex (rule12 f) (J n12 0)
+  unfolding rule12
+  primary-examined = examines-check total head f n12 0 _ (told n12 0 (omega arith) (tells-primary f))
+
+  placed-within : (r : ℕ) → Within total head f 1 0 r (Two n13 n14 r)
+  placed-within r = two-within n13 n14 1 0 r (just-within n13 1 0 r refl refl) (just-within n14 1 0 r refl refl)
+
+  declared-within : (r : ℕ) → Within total head f 2 0 r (Two n15 n16 r)
+  declared-within r = two-within n15 n16 2 0 r (just-within n15 2 0 r refl refl) (just-within n16 2 0 r refl refl)
+
+  early-examined : Ex (rule12 f >> inOrder (λ r i. rule13-14 total head f i) 0 (f .items) >> inOrder (λ r i. rule15-16 f i) 0 (f .items) >> inOrder (λ r i. rule17 total head f i) 0 (f .items) >> inOrder (rule18 s) 0 (f .items) >> inOrder (rule19 s) 0 (f .items)) Early × Below 6 Early
+  early-examined =
+      next-stage 5 _ _ _ _
+      (next-stage 4 _ _ _ _
+      (next-stage 3 _ _ _ _
+      (next-stage 2 _ _ _ _
+      (next-stage 1 _ _ _ _ (primary-examined, (λ n r i. let z = ap (λ (n : Number). ruleOf total head f n .stage) (i .0) in omega arith))
+      (stage-examined _ _ 1 0 placed-within placed-examined) (rows-stage _ 1 0 placed-within))
+      (stage-examined _ _ 2 0 declared-within declared-examined) (rows-stage _ 2 0 declared-within))
+      (stage-examined _ _ 3 0 (λ r. just-within n17 3 0 r refl refl) derived-examined) (rows-stage _ 3 0 (λ r. just-within n17 3 0 r refl refl)))
+      (stage-examined _ _ 4 0 (λ r. just-within n18 4 0 r refl refl) itself-examined) (rows-stage _ 4 0 (λ r. just-within n18 4 0 r refl refl)))
+      (stage-examined _ _ 5 0 (λ r. just-within n19 5 0 r refl refl) deep-examined) (rows-stage _ 5 0 (λ r. just-within n19 5 0 r refl refl))
+
+  judged-examined : Ex (judged total head f) Asked
+  unfolding judged
+  judged-examined = next-stage 6 _ _ _ _ early-examined (depths-examined 17 0) laps-stage .0
+
+  -- every fault is asked for, but 20 of pictures deeper than 16
+  asked-all : (n : Number) (r : ℕ) → F n r → Asked n r ⊎ ((n ≡ n20) × (16 < depth s r))
+  asked-all n12 r w = let l = w .listed in inl (inl (inl (inl (inl (inl (inl (refl, (omega arith))))))))
+  asked-all n13 r w = inl (inl (inl (inl (inl (inl (inr (r, w .listed, inl (refl, (omega arith)))))))))
+  asked-all n14 r w = inl (inl (inl (inl (inl (inl (inr (r, w .listed, inr (refl, (omega arith)))))))))
+  asked-all n15 r w = inl (inl (inl (inl (inl (inr (r, w .listed, inl (refl, (omega arith))))))))
+  asked-all n16 r w = inl (inl (inl (inl (inl (inr (r, w .listed, inr (refl, (omega arith))))))))
+  asked-all n17 r w = inl (inl (inl (inl (inr (r, w .listed, (refl, (omega arith)))))))
+  asked-all n18 r w = inl (inl (inl (inr (r, w .listed, (refl, (omega arith))))))
+  asked-all n19 r w = inl (inl (inr (r, w .listed, (refl, (omega arith)))))
+  asked-all n20 r w =
+      elim (decLt (depth s r) 17) [
+        | yes h ↦ inl (inr (depth s r, h, (r, w .listed, ((refl, (omega arith)), ap (depth s) (zero-add r) ∙ sym (zero-add (depth s r))))))
+        | no h ↦ inr (refl, (omega (arith, h)))
+      ]
+
+  -- no refusal, no fault
+  pub judged-good : judged total head f ≡ ok tt → (n : Number) (r : ℕ) → F n r → ⊥
+  judged-good e n r w = by (asked-all n r w)
+    where
+      by : Asked n r ⊎ ((n ≡ n20) × (16 < depth s r)) → ⊥
+      by (inl i) = judged-examined .good e n r i w
+      by (inr d) = judged-examined .good e n19 r (inl (inr (r, deep .listed, (refl, (omega arith))))) deep
+        where
+          deep : F n19 r
+          deep = record { listed = subst (λ (n : Number). r < ruleOf total head f n .rows) (d .0) (w .listed); there = d .1 }
+
+  last-stage : (n : Number) (r : ℕ) → Asked n r → ruleOf total head f n .stage ≤ 6
+  last-stage n r (inl i) = let z = early-examined .1 n r i in omega arith
+  last-stage n r (inr i) = let z = laps-stage n r i in omega arith
+
+  -- a refusal is the first fault
+  shallow : (n : Number) (r : ℕ) → Asked n r → 6 ≤ ruleOf total head f n .stage → ruleOf total head f n .lap r < 17
+  shallow n r (inl i) h = let z = early-examined .1 n r i in absurd (omega arith)
+  shallow n r (inr i) h = let z = at-within (0 + i .0) (0 + i .2 .0) .lap-is n r (i .2 .2) in let y = i .1 in omega arith
+
+  pub judged-first : (k p : ℕ) → judged total head f ≡ refuse k p → (n : Number) × (r : ℕ) × First total head f n r × (k ≡ ruleOf total head f n .number) × (p ≡ ruleOf total head f n .place r)
+  judged-first k p e = (x .number, x .row, record { present = x .there; none-before = λ m q y w. by m q y w (asked-all m q w) }, x .number-is, x .place-is)
+    where
+      x : Finds total head f Asked k p
+      x = judged-examined .first k p e
+
+      by : (m : Number) (q : ℕ) → Earlier (turnOf total head f m q) (turnOf total head f (x .number) (x .row)) → F m q → Asked m q ⊎ ((m ≡ n20) × (16 < depth s q)) → ⊥
+      by m q y w (inl i) = x .none-before m q i y w
+      by m q y w (inr d) =
+          let st = ap (λ (m : Number). ruleOf total head f m .stage) (d .0) in
+          let la = ap (λ (m : Number). ruleOf total head f m .lap q) (d .0) in
+          let a = turn-stage total head f m q (x .number) (x .row) y in
+          let b = shallow (x .number) (x .row) (x .among) (omega arith) in
+          let low = last-stage (x .number) (x .row) (x .among) in
+          let c = turn-lap total head f m q (x .number) (x .row) (omega arith) y in
+          let z = d .1 in
+          omega arith
+
+  -- and the other way round: where no fault is, nothing is refused, and the first fault is what is refused
+  pub good-judged : ((n : Number) (r : ℕ) → F n r → ⊥) → judged total head f ≡ ok tt
+  good-judged none = by (judged total head f) refl
+    where
+      by : (m : Answer (Unit {0})) → judged total head f ≡ m → m ≡ ok tt
+      by (ok u) e = refl
+      by (refuse k p) e = let x = judged-first k p e in absurd (none (x .0) (x .1) (x .2 .present))
+
+  pub one-first : (n : Number) (r : ℕ) (m : Number) (q : ℕ) → First total head f n r → First total head f m q → (n ≡ m) × (r ≡ q)
+  one-first n r m q x y = by (ordered (turnOf total head f n r) (turnOf total head f m q) refl)
+    where
+      by : Earlier (turnOf total head f n r) (turnOf total head f m q) ⊎ ((turnOf total head f n r ≡ turnOf total head f m q) ⊎ Earlier (turnOf total head f m q) (turnOf total head f n r)) → (n ≡ m) × (r ≡ q)
+      by (inl e) = absurd (y .none-before n r e (x .present))
+      by (inr (inl e)) = (one-number total head f n m (ap (λ (l : List ℕ). getD l 3 0) e), ap (λ (l : List ℕ). getD l 2 0) e)
+      by (inr (inr e)) = absurd (x .none-before m q e (y .present))
+
+  pub first-judged : (n : Number) (r : ℕ) → First total head f n r → judged total head f ≡ refuse (ruleOf total head f n .number) (ruleOf total head f n .place r)
+  first-judged n r x = by (judged total head f) refl
+    where
+      by : (m : Answer (Unit {0})) → judged total head f ≡ m → m ≡ refuse (ruleOf total head f n .number) (ruleOf total head f n .place r)
+      by (ok u) e = absurd (judged-good e n r (x .present))
+      by (refuse k p) e =
+          let y = judged-first k p e in
+          let z = one-first (y .0) (y .1) n r (y .2) x in
+          ap (λ (k : ℕ). refuse k p) (y .3) ∙ ap (refuse (ruleOf total head f (y .0) .number)) (y .4) ∙ (ap (λ (n : Number). refuse (ruleOf total head f n .number) (ruleOf total head f n .place (y .1))) (z .0) ∙ ap (λ (r : ℕ). refuse (ruleOf total head f n .number) (ruleOf total head f n .place r)) (z .1))

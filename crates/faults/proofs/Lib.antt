@@ -1,0 +1,7 @@
+pub mod TellsLaws
+pub mod FaultLaws
+pub mod DerivationLaws
+pub mod SizeLaws
+pub mod FirstLaws
+pub mod JudgedLaws
+pub mod GoodLaws

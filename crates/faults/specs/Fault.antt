@@ -1,0 +1,142 @@
+-- Faults of a file: document 01, "Refusal numbers", rows 12 to 20, each as a type that says when the fault is there. No order, no reading, no answer.
+--   Any P l                     P of one of l
+--   PrimaryWrong f, ..          one type for each row of the table, one case for each thing that the row names
+--   ruleOf total head f n       the row n of the table
+--   Fault total head f n r      the fault by number n is there at the item in row r
+use Prim.Native.Nat.{ℕ, _+_, _*_, _≤_, _<_}
+use mathlib.Core.Path.{_≡_}
+use mathlib.Core.List.{List, [], _∷_, _++_}
+use mathlib.Core.Bool.{Bool, true, false}
+use mathlib.Core.Logic.{_⊎_}
+use lib.ListN.{length, take, drop}
+use Rattle.fields.specs.Lists.{member}
+use Rattle.boxes.specs.Types.{ispe, iden, grid, iovl, knownProperty, coded, derived, image}
+use Rattle.boxes.specs.Box.{kindOf}
+use Rattle.forms.specs.Form.{Form}
+use Rattle.contents.specs.Iinf.{Item}
+use Rattle.contents.specs.Iloc.{Extent, Location}
+use Rattle.contents.specs.Ipma.{Association}
+use Rattle.contents.specs.File.{File}
+use Rattle.pictures.specs.declared.Size.{Size}
+use Rattle.pictures.specs.Turn.{size, AllFit}
+use Rattle.pictures.specs.Decode.{transform}
+use Rattle.pictures.specs.Recipe.{Recipe, Copy, Tiles, Layers, Grid, Overlay, grid-form, iovl-form}
+use Rattle.pictures.specs.Scene.{Picture, Scene, pictureAt, outputOf, firstInput}
+use Rattle.pictures.specs.Depth.{Derives, depth}
+use Rattle.rules.specs.Joined.{locationOf, associationsOf, targetsOf, propertyAt, typesOf, rowOf, itemAt}
+use Rattle.rules.specs.Bytes.{Store, storeOf}
+use Rattle.rules.specs.Derivations.{sceneOf}
+use Rattle.rules.specs.Rules.{countOf}
+
+abbrev pub Any : {A : Type 0} → (A → Type 0) → List A → Type 0
+Any P [] = ⊥
+Any P (x ∷ xs) = P x ⊎ Any P xs
+
+abbrev pub Not : Type 0 → Type 0
+Not A = A → ⊥
+
+-- 12: "primary item unlisted, opaque or hidden"
+pub data PrimaryWrong (f : File) : Type 0 where
+  unlisted : length (f .items) ≤ rowOf (f .primary) (f .items) → PrimaryWrong f
+  opaque : image (itemAt f (rowOf (f .primary) (f .items)) .type) ≡ false → PrimaryWrong f
+  hidden : Not (itemAt f (rowOf (f .primary) (f .items)) .hidden ≡ 0) → PrimaryWrong f
+
+-- 13: "construction method not 0 or 1, data reference not 0, or extent length 0"
+pub data WrongPlace (l : Location) : Type 0 where
+  method : 1 < l .method → WrongPlace l
+  reference : Not (l .reference ≡ 0) → WrongPlace l
+  no-length : Any (λ (e : Extent). e .size ≡ 0) (l .extents) → WrongPlace l
+
+-- 14: "extent past its source; coded item without extents"
+pub data WrongBytes (st : Store) (l : Location) (type : ℕ) : Type 0 where
+  past : Any (λ (e : Extent). st .size < l .base + e .offset + e .size) (l .extents) → WrongBytes st l type
+  without : coded type ≡ true → l .extents ≡ [] → WrongBytes st l type
+
+-- 15: "image item protected, or with an essential property of unknown type"
+pub data NotReadable (f : File) (i : Item) : Type 0 where
+  protected : Not (i .protection ≡ 0) → NotReadable f i
+  unknown : Any (λ (a : Association). (a .essential ≡ true) × (knownProperty (kindOf (propertyAt f (a .index))) ≡ false)) (associationsOf f (i .id)) → NotReadable f i
+
+-- 16: "image item without exactly one `ispe` association, or `ispe` after a transform"; ks the types of its properties in association order
+pub data WrongIspe (ks : List ℕ) : Type 0 where
+  not-one : Not (countOf ispe ks ≡ 1) → WrongIspe ks
+  late : (before : List ℕ) (t : ℕ) (behind : List ℕ) → before ++ (t ∷ behind) ≡ ks → transform t ≡ true → member ispe behind ≡ true → WrongIspe ks
+
+-- "one extent, wholly in the head": b are the bytes there
+pub record BodyIs (st : Store) (l : Location) (b : List ℕ) : Type 0 where
+  pub extent : Extent
+  pub one : l .extents ≡ extent ∷ []
+  pub inside : l .base + extent .offset + extent .size ≤ length (st .known)
+  pub bytes : b ≡ take (extent .size) (drop (l .base + extent .offset) (st .known))
+
+-- 17: "derivation inputs or body wrong"; ts the item's `dimg` targets. "Only derived items have `dimg`; inputs are image items. `iden`: one input, no extents."; "Inputs = rows × columns"; "a signed (x, y) offset per input, at least one input"
+pub data WrongDerivation (f : File) (st : Store) (l : Location) (type : ℕ) (ts : List ℕ) : Type 0 where
+  not-derived : derived type ≡ false → Not (ts ≡ []) → WrongDerivation f st l type ts
+  no-picture : derived type ≡ true → Any (λ (t : ℕ). image (itemAt f (rowOf t (f .items)) .type) ≡ false) ts → WrongDerivation f st l type ts
+  copy-inputs : type ≡ iden → Not (length ts ≡ 1) → WrongDerivation f st l type ts
+  copy-extents : type ≡ iden → Not (l .extents ≡ []) → WrongDerivation f st l type ts
+  no-tiles : type ≡ grid → ((b : List ℕ) (g : Grid) → BodyIs st l b → grid-form .Spells b g → length ts ≡ g .rows * g .columns → ⊥) → WrongDerivation f st l type ts
+  no-layers : type ≡ iovl → ((b : List ℕ) (o : Overlay) → BodyIs st l b → iovl-form (length ts) .Spells b o → 0 < length ts → ⊥) → WrongDerivation f st l type ts
+
+-- "Every width and height is 1 to 65,535."
+pub record GoodSides (s : Size) : Type 0 where
+  pub some-wide : 1 ≤ s .wide
+  pub wide-fits : s .wide ≤ 65535
+  pub some-high : 1 ≤ s .high
+  pub high-fits : s .high ≤ 65535
+
+-- 20: "sizes wrong". "`ispe` equals the reconstructed size"; "equal in size; tile width × columns at least the canvas width, likewise height"; a `clap` that does not fit
+pub data WrongSizes (s : Scene) (p : Picture) : Type 0 where
+  declared-side : Not (GoodSides (p .declared)) → WrongSizes s p
+  output-side : Not (GoodSides (outputOf p)) → WrongSizes s p
+  crop : Not (AllFit (p .turns) (p .declared)) → WrongSizes s p
+  copy : p .recipe ≡ Copy → Not (p .declared ≡ firstInput s p) → WrongSizes s p
+  unequal : (g : Grid) → p .recipe ≡ Tiles g → Any (λ (i : ℕ). Not (outputOf (pictureAt s i) ≡ firstInput s p)) (p .inputs) → WrongSizes s p
+  too-narrow : (g : Grid) → p .recipe ≡ Tiles g → firstInput s p .wide * g .columns < g .wide → WrongSizes s p
+  too-low : (g : Grid) → p .recipe ≡ Tiles g → firstInput s p .high * g .rows < g .high → WrongSizes s p
+  tiles-canvas : (g : Grid) → p .recipe ≡ Tiles g → Not (p .declared ≡ size (g .wide) (g .high)) → WrongSizes s p
+  layers-canvas : (o : Overlay) → p .recipe ≡ Layers o → Not (p .declared ≡ size (o .wide) (o .high)) → WrongSizes s p
+
+-- A row of the table: its number; its turn in the "Order of reading", where `stage` counts "Then 12. Then for each item in table order 13 before 14; then for each image item 15 before 16; then 17 for each item; 18 and then 19 ..; then 20", and `lap` is the depth for 20, "by rising depth"; how many rows it is asked of; the place, by row; and the fault itself.
+pub record Rule : Type 1 where
+  pub number : ℕ
+  pub stage : ℕ
+  pub lap : ℕ → ℕ
+  pub rows : ℕ
+  pub place : ℕ → ℕ
+  pub Wrong : ℕ → Type 0
+
+-- asked of each item, its place the item's ID
+abbrev pub ofItems : File → ℕ → ℕ → (ℕ → Type 0) → Rule
+ofItems f n stage W = record { number = n; stage = stage; lap = λ r. 0; rows = length (f .items); place = λ r. itemAt f r .id; Wrong = W }
+
+pub data Number : Type 0 where
+  n12 n13 n14 n15 n16 n17 n18 n19 n20 : Number
+
+-- 12 is a fault of the file and not of a row: it stands at row 0. 18: "item derived from itself". 19: "depth over 16".
+module _ (total : ℕ) (head : List ℕ) (f : File) where
+  abbrev pub sourceOf : ℕ → Store
+  sourceOf r = storeOf total head f (locationOf f (itemAt f r .id) .method)
+
+  abbrev pub ruleOf : Number → Rule
+  ruleOf n12 = record { number = 12; stage = 0; lap = λ r. 0; rows = 1; place = λ r. f .primary; Wrong = λ r. PrimaryWrong f }
+  ruleOf n13 = ofItems f 13 1 (λ r. WrongPlace (locationOf f (itemAt f r .id)))
+  ruleOf n14 = ofItems f 14 1 (λ r. WrongBytes (sourceOf r) (locationOf f (itemAt f r .id)) (itemAt f r .type))
+  ruleOf n15 = ofItems f 15 2 (λ r. (image (itemAt f r .type) ≡ true) × NotReadable f (itemAt f r))
+  ruleOf n16 = ofItems f 16 2 (λ r. (image (itemAt f r .type) ≡ true) × WrongIspe (typesOf f (itemAt f r .id)))
+  ruleOf n17 = ofItems f 17 3 (λ r. WrongDerivation f (sourceOf r) (locationOf f (itemAt f r .id)) (itemAt f r .type) (targetsOf f (itemAt f r .id)))
+  ruleOf n18 = ofItems f 18 4 (λ r. Derives (sceneOf total head f) r r)
+  ruleOf n19 = ofItems f 19 5 (λ r. 16 < depth (sceneOf total head f) r)
+  ruleOf n20 =
+      record {
+        number = 20;
+        stage = 6;
+        lap = λ r. depth (sceneOf total head f) r;
+        rows = length (f .items);
+        place = λ r. itemAt f r .id;
+        Wrong = λ r. (image (itemAt f r .type) ≡ true) × WrongSizes (sceneOf total head f) (pictureAt (sceneOf total head f) r);
+      }
+
+  pub record Fault (n : Number) (r : ℕ) : Type 0 where
+    pub listed : r < ruleOf n .rows
+    pub there : ruleOf n .Wrong r

@@ -1,0 +1,14 @@
+-- `input::read_input` keeps its promise. Assumes nothing.
+use mathlib.Core.Path.{subst}
+use Rattle.input.specs.Within.{AtLeast}
+use borrow.Author.Needs.{needs}
+use Rattle.input.proofs.read_input.Statement.{statement}
+use Rattle.input.proofs.read_input.Tie as tie
+
+returns-2 : tie.Need-returns-2
+returns-2 c = (c .before .before .before .before .before .before .read-full .ensures, subst (AtLeast _) (c .before .counted .given .1) (c .before .before .before .count-on .ensures))
+
+pub read-input-spec : {M : Type 1} → statement M
+read-input-spec =
+    tie.close (tie.spec (λ c κs. search needs) (λ c κs. search needs) (search needs) (search needs) (search needs)
+    (λ c. search needs) (search needs) returns-2)

@@ -1,0 +1,466 @@
+// The picture of a picture: how an item of an accepted file is put together, from its output image down to the coded items; and the picture of a refusal.
+mod place;
+mod turns;
+
+ghost use mathlib.Core.Path.{_≡_};
+ghost use Prim.Native.Nat.{_-_, _≤_};
+use boxes::Refusal;
+use canvas::Margins;
+use canvas::Part;
+use canvas::Pose;
+use canvas::ZERO;
+use canvas::put;
+use canvas::put_number;
+use canvas::put_with;
+use pictures::GridRead;
+use pictures::OverlayRead;
+use pictures::Size;
+use place::Corner;
+use place::Seen;
+use table::ItemRow;
+use words::PlaceKind;
+
+// How a picture lies: what is seen of it, its pose, whether what is cut away is drawn around it, and of how many pictures that lie just so it is the copy.
+struct Lying {
+    part: Part,
+    pose: Pose,
+    around: bool,
+    copies: u32,
+}
+
+fn no_margins() -> Margins {
+    Margins {
+        left: 0,
+        top: 0,
+        right: 0,
+        bottom: 0,
+    }
+}
+
+// A tile of a grid.
+fn tile_corner(head: &[u8], table: &[u32], row: ItemRow, k: u32, s: Size) -> Corner {
+    let g = pictures::read_grid(derived::body_of(head, table, row));
+    match g {
+        GridRead::Wrong => Corner { x: ZERO, y: ZERO },
+        GridRead::Is {
+            rows: _,
+            columns,
+            wide: _,
+            high: _,
+        } => place::tile_in(columns, k, s),
+    }
+}
+
+// An input of an overlay.
+fn layer_corner(head: &[u8], table: &[u32], row: ItemRow, k: u32) -> Corner {
+    let n = derived::input_count(table, row);
+    if 2048 < n {
+        return Corner { x: ZERO, y: ZERO };
+    }
+    let b = derived::body_of(head, table, row);
+    let o = pictures::read_overlay(b, n);
+    match o {
+        OverlayRead::Wrong => Corner { x: ZERO, y: ZERO },
+        OverlayRead::Is {
+            wide: _,
+            high: _,
+            bytes,
+        } => place::offset_in(b, bytes, k),
+    }
+}
+
+const IDEN: u32 = 0x6964656e;
+
+const GRID: u32 = 0x67726964;
+
+const IOVL: u32 = 0x696f766c;
+
+// Where the input with a number from 0 lies, which has the output size s.
+fn corner_of(head: &[u8], table: &[u32], row: ItemRow, k: u32, s: Size) -> Corner {
+    match views::type_of(table, row) {
+        GRID => tile_corner(head, table, row, k, s),
+        IOVL => layer_corner(head, table, row, k),
+        _ => Corner { x: ZERO, y: ZERO },
+    }
+}
+
+// How much is cut away around an item's output image, by itself and by the pictures that it is a copy of.
+fn margins_of(head: &[u8], table: &[u32], rows: &[u32], d: u32, row: ItemRow) -> Margins {
+    if views::type_of(table, row) == IDEN {
+        if 0 < d {
+            let input = derived::input_of(table, rows, row, 0);
+            let m = margins_of(head, table, rows, d - 1, input);
+            return turns::margins_through(head, table, row, sizing::declared_in(table, row), m);
+        }
+    }
+    turns::margins_through(
+        head,
+        table,
+        row,
+        sizing::declared_in(table, row),
+        no_margins(),
+    )
+}
+
+fn is_cut(m: Margins) -> bool {
+    if 0 < m.left {
+        return true;
+    }
+    if 0 < m.top {
+        return true;
+    }
+    if 0 < m.right {
+        return true;
+    }
+    0 < m.bottom
+}
+
+// The ID and type of an item, and what its transforms do.
+fn put_tag(head: &[u8], table: &[u32], row: ItemRow, lying: Lying, scale: u32) {
+    let id = views::id_of(table, row).0;
+    let kind = views::type_of(table, row);
+    let part = lying.part;
+    let pose = lying.pose;
+    if views::is_derived(kind) {
+        canvas::open_derived_tag(part, pose, id, kind, scale, lying.copies);
+    } else {
+        canvas::open_coded_tag(part, pose, id, kind, scale);
+    }
+    turns::put_turns(head, table, row);
+    canvas::close_tag();
+}
+
+// What is drawn before an item's inputs.
+fn open_item(table: &[u32], row: ItemRow, pose: Pose) {
+    let s = sizing::declared_in(table, row);
+    let id = views::id_of(table, row).0;
+    let kind = views::type_of(table, row);
+    match kind {
+        IDEN => canvas::open_group(),
+        GRID => canvas::open_canvas(s),
+        IOVL => {
+            canvas::open_canvas(s);
+            canvas::put_fill(id, s, pose);
+        }
+        _ => canvas::put_coded(id, kind, s),
+    }
+}
+
+// What is drawn after them.
+fn close_item(head: &[u8], table: &[u32], rows: &[u32], row: ItemRow, lying: Lying, scale: u32) {
+    let part = lying.part;
+    let pose = lying.pose;
+    match views::type_of(table, row) {
+        IDEN => canvas::close_group(),
+        GRID => canvas::close_canvas(),
+        IOVL => {
+            tag_layers(head, table, rows, row, lying, scale);
+            canvas::close_canvas();
+        }
+        _ => canvas::put_arrow(part, pose, scale),
+    }
+    put_tag(head, table, row, lying, scale);
+}
+
+// How an input lies of which a part is seen.
+fn lying_in(lying: Lying, part: Part, copied: bool) -> Lying {
+    let pose = lying.pose;
+    if !copied {
+        return Lying {
+            part,
+            pose,
+            around: false,
+            copies: 1,
+        };
+    }
+    Lying {
+        part,
+        pose,
+        around: lying.around,
+        copies: std::num::wrapping_add_u32(lying.copies, 1),
+    }
+}
+
+// Where an input lies on its canvas, and what is seen of it.
+fn seen_at(head: &[u8], table: &[u32], row: ItemRow, k: u32, lying: Lying, s: Size) -> Seen {
+    let part = lying.part;
+    let corner = corner_of(head, table, row, k, s);
+    place::seen_of(
+        part,
+        sizing::declared_in(table, row),
+        lying.around,
+        corner,
+        s,
+    )
+}
+
+fn open_input(head: &[u8], table: &[u32], row: ItemRow, k: u32, s: Size) {
+    let corner = corner_of(head, table, row, k, s);
+    canvas::open_input(corner.x, corner.y);
+}
+
+// What crops kept of an input.
+fn put_kept(head: &[u8], table: &[u32], rows: &[u32], input: ItemRow, lying: Lying, scale: u32) {
+    let m = margins_of(head, table, rows, 16, input);
+    if is_cut(m) {
+        let part = lying.part;
+        let pose = lying.pose;
+        let s = sizing::output_in(table, input);
+        let up = views::is_coded(views::type_of(table, input));
+        canvas::put_kept(part, pose, s, m, scale, up);
+    }
+}
+
+// What tells of an overlay's input again, above those that lie on it.
+fn tag_layer(
+    head: &[u8],
+    table: &[u32],
+    rows: &[u32],
+    row: ItemRow,
+    k: u32,
+    lying: Lying,
+    scale: u32,
+) {
+    let input = derived::input_of(table, rows, row, k as usize);
+    let s = sizing::output_in(table, input);
+    let seen = seen_at(head, table, row, k, lying, s);
+    match seen {
+        Seen::None => {}
+        Seen::Is(part) => {
+            open_input(head, table, row, k, s);
+            let within = lying_in(lying, part, false);
+            canvas::put_under(s);
+            put_kept(head, table, rows, input, within, scale);
+            put_tag(head, table, input, within, scale);
+            canvas::close_group();
+        }
+    }
+}
+
+// How many inputs an item has, at most 2,048.
+fn input_count(table: &[u32], row: ItemRow) -> u32
+    ensures { λ r. ⌜ r ≤ 2048 ⌝ }
+{
+    let n = derived::input_count(table, row);
+    if 2048 < n {
+        return 2048;
+    }
+    n as u32
+}
+
+fn tag_layers(head: &[u8], table: &[u32], rows: &[u32], row: ItemRow, lying: Lying, scale: u32) {
+    let n = input_count(table, row);
+    let mut k: u32 = 0;
+    while k < n {
+        tag_layer(head, table, rows, row, k, lying, scale);
+        k += 1;
+    }
+}
+
+// What is drawn after an input: if it is no copy, its edge and what its crops kept.
+fn close_input(
+    head: &[u8],
+    table: &[u32],
+    rows: &[u32],
+    input: ItemRow,
+    lying: Lying,
+    copied: bool,
+    scale: u32,
+) {
+    if !copied {
+        canvas::put_edge(sizing::output_in(table, input));
+        put_kept(head, table, rows, input, lying, scale);
+    }
+    canvas::close_group();
+}
+
+// Draws the output image of an item, at most d derivations down and with at most so many inputs, and answers how many more may be drawn.
+fn draw_output(
+    head: &[u8],
+    table: &[u32],
+    rows: &[u32],
+    d: u32,
+    row: ItemRow,
+    lying: Lying,
+    scale: u32,
+    left: u32,
+) -> u32
+    ensures { λ r. ⌜ r ≤ left ⌝ }
+{
+    let s = sizing::declared_in(table, row);
+    let part = lying.part;
+    let pose = lying.pose;
+    let around = lying.around;
+    turns::open_turns(head, table, row, 0, s, around);
+    let seen = turns::part_within(head, table, row, s, part);
+    let turned = turns::pose_within(head, table, row, s, pose);
+    let within = Lying {
+        part: seen,
+        pose: turned,
+        around,
+        copies: lying.copies,
+    };
+    let rest = draw_reconstructed(head, table, rows, d, row, within, scale, left);
+    turns::close_turns(head, table, row, s, around);
+    rest
+}
+
+fn draw_reconstructed(
+    head: &[u8],
+    table: &[u32],
+    rows: &[u32],
+    d: u32,
+    row: ItemRow,
+    lying: Lying,
+    scale: u32,
+    left: u32,
+) -> u32
+    ensures { λ r. ⌜ r ≤ left ⌝ }
+{
+    let pose = lying.pose;
+    open_item(table, row, pose);
+    let n = input_count(table, row);
+    let mut rest = left;
+    let mut k: u32 = 0;
+    while k < n {
+        rest = draw_input(head, table, rows, d, row, k, lying, scale, rest);
+        k += 1;
+    }
+    close_item(head, table, rows, row, lying, scale);
+    rest
+}
+
+// The input with a number from 0. One that is not seen counts too, so that no file takes for ever.
+fn draw_input(
+    head: &[u8],
+    table: &[u32],
+    rows: &[u32],
+    d: u32,
+    row: ItemRow,
+    k: u32,
+    lying: Lying,
+    scale: u32,
+    left: u32,
+) -> u32
+    ensures { λ r. ⌜ r ≤ left - 1 ⌝ }
+{
+    let copied = views::type_of(table, row) == IDEN;
+    let input = derived::input_of(table, rows, row, k as usize);
+    let s = sizing::output_in(table, input);
+    let seen = seen_at(head, table, row, k, lying, s);
+    match seen {
+        Seen::None => place::fewer(left),
+        Seen::Is(part) => {
+            open_input(head, table, row, k, s);
+            if d == 0 {
+                return shut(table, input, s);
+            }
+            if left == 0 {
+                return shut(table, input, s);
+            }
+            let within = lying_in(lying, part, copied);
+            let rest = draw_output(head, table, rows, d - 1, input, within, scale, left - 1);
+            close_input(head, table, rows, input, within, copied, scale);
+            rest
+        }
+    }
+}
+
+// A picture that is not gone into.
+fn shut(table: &[u32], input: ItemRow, s: Size) -> u32
+    ensures { λ r. ⌜ r ≡ 0 ⌝ }
+{
+    canvas::put_shut(
+        views::id_of(table, input).0,
+        views::type_of(table, input),
+        s,
+    );
+    canvas::close_group();
+    0
+}
+
+// Item 2 (iden): 480 x 640 pixels; of which file it is; and what is done to it.
+fn put_title(head: &[u8], table: &[u32], row: ItemRow) {
+    let s = sizing::declared_in(table, row);
+    let o = sizing::output_in(table, row);
+    put_with(
+        b"<text class='title' x='30' y='38'>Item ",
+        views::id_of(table, row).0,
+    );
+    put(b" (");
+    canvas::put_kind(views::type_of(table, row));
+    put(b"): ");
+    canvas::put_times(o.wide, o.high);
+    put_with(
+        b" pixels</text>\n<text x='1170' y='38' text-anchor='end'>items: ",
+        table::word(table, 0),
+    );
+    put_with(b", primary item: ", table::word(table, 5));
+    put(b"</text>\n<text x='30' y='66'>made as ");
+    canvas::put_times(s.wide, s.high);
+    turns::say_turns(head, table, row);
+    put(b"</text>\n");
+}
+
+// The picture of the picture in a row of an accepted file's table.
+pub fn draw_item(head: &[u8], table: &[u32], row: ItemRow) {
+    let mut rows = [0u32; 2048];
+    derived::resolve(table, &mut rows);
+    let s = sizing::output_in(table, row);
+    let m = margins_of(head, table, &rows, 16, row);
+    let scale = canvas::scale_of(canvas::uncut(s, m));
+    canvas::open_page(1000);
+    put_title(head, table, row);
+    canvas::open_picture(s, m, scale);
+    let lying = Lying {
+        part: place::whole(s),
+        pose: Pose(0),
+        around: true,
+        copies: 0,
+    };
+    let left = draw_output(head, table, &rows, 16, row, lying, scale, 4096);
+    canvas::close_picture(s, scale);
+    canvas::close_page(0 < left);
+}
+
+// The type of the box at a place of the head.
+fn put_box(head: &[u8], at: usize) {
+    if head.len() < 8 {
+        return put(b"a box");
+    }
+    if head.len() - 8 < at {
+        return put(b"a box");
+    }
+    put(b"`");
+    canvas::put_kind(fields::be32(head, at + 4));
+    put(b"`");
+}
+
+// Whom the words of a refusal are about, where its place tells that.
+fn put_subject(head: &[u8], f: Refusal) {
+    let kind = words::place_kind(f.number);
+    match kind {
+        PlaceKind::Nothing => {}
+        PlaceKind::Box => put_box(head, f.place as usize),
+        PlaceKind::Item | PlaceKind::Asked => {
+            put(b"item ");
+            put_number(f.place);
+        }
+    }
+    put(b" ");
+}
+
+// A refusal as a picture: its number, its place, and its words.
+pub fn draw_refusal(head: &[u8], f: Refusal) {
+    canvas::open_page(200);
+    put_with(
+        b"<text class='title warn' x='30' y='60'>Refused: ",
+        f.number,
+    );
+    put(b" at ");
+    put_number(f.place);
+    put(b"</text>\n<text x='30' y='100'>");
+    put_subject(head, f);
+    words::print_words(1, f.number);
+    put(b".</text>\n<text x='30' y='130'>So there is nothing to draw.</text>\n</svg>\n");
+}

@@ -1,0 +1,10 @@
+-- `still_c::still_verdict` meets its contract. Assumes nothing.
+use borrow.Author.Needs.{needs}
+use Rattle.still_c.proofs.still_verdict.Statement.{statement}
+use Rattle.still_c.proofs.still_verdict.Tie as tie
+
+returns : tie.Need-returns
+returns c = (c .verdict-numbers .ensures _ (c .before .before .before .verdict .ensures .0), c .before .before .before .verdict .ensures .1)
+
+pub still-verdict-spec : {M : Type 1} → statement M
+still-verdict-spec = tie.close (tie.spec (search needs) (search needs) (search needs) returns)

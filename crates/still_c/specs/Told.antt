@@ -1,0 +1,73 @@
+-- The answers as C is given them, eight numbers each: "A refusal returns number and place; other numbers are 0", then the answer's values in document 01's order.
+--   outRefused           number and place of a refusal
+--   outVerdict, outSized, outTraced, outListed, outPart     the eight numbers for an answer
+--   VerdictGiven, SizeGiven, TraceGiven, SourcesGiven, PropertyGiven     all that a call leaves: `out`, the list, the table, from what it was lent
+use Prim.Native.Nat.{ℕ}
+use mathlib.Core.Path.{_≡_}
+use mathlib.Core.List.{List, [], _∷_}
+use mathlib.Core.Bool.{Bool, true, false}
+use lib.ListN.{length}
+use Rattle.boxes.specs.Answer.{Answer, ok, refuse}
+use Rattle.pictures.specs.declared.Point.{Point}
+use Rattle.pictures.specs.Turn.{point}
+use Rattle.rules.specs.Questions.{after, listAfter}
+use Rattle.rules.specs.Questions as Q
+
+abbrev pub outRefused : ℕ → ℕ → List ℕ
+outRefused n p = n ∷ p ∷ 0 ∷ 0 ∷ 0 ∷ 0 ∷ 0 ∷ 0 ∷ []
+
+-- "accepted, with item count and primary item ID"
+unfoldable pub outVerdict : Answer Q.Verdict → List ℕ
+outVerdict (ok v) = 0 ∷ 0 ∷ v .items ∷ v .primary ∷ 0 ∷ 0 ∷ 0 ∷ 0 ∷ []
+outVerdict (refuse n p) = outRefused n p
+
+-- "reconstructed and output width and height, depth"
+unfoldable pub outSized : Answer Q.Sized → List ℕ
+outSized (ok s) = 0 ∷ 0 ∷ s .reconstructed .wide ∷ s .reconstructed .high ∷ s .output .wide ∷ s .output .high ∷ s .depth ∷ 0 ∷ []
+outSized (refuse n p) = outRefused n p
+
+-- "pixel or fill, item ID, x, y there, items passed": 1 stands for a pixel, 2 for a fill
+unfoldable pub endNumber : Bool → ℕ
+endNumber false = 1
+endNumber true = 2
+
+unfoldable pub outTraced : Answer Q.Found → List ℕ
+outTraced (ok e) = 0 ∷ 0 ∷ endNumber (e .isFill) ∷ e .item ∷ e .at .x ∷ e .at .y ∷ e .passed ∷ 0 ∷ []
+outTraced (refuse n p) = outRefused n p
+
+-- how many IDs were written
+unfoldable pub outListed : Answer (List ℕ) → List ℕ
+outListed (ok ids) = 0 ∷ 0 ∷ length ids ∷ 0 ∷ 0 ∷ 0 ∷ 0 ∷ 0 ∷ []
+outListed (refuse n p) = outRefused n p
+
+-- "that property box, header included, as a part of the head": where the part begins in the head, and how long it is
+unfoldable pub outPart : Answer Q.Part → List ℕ
+outPart (ok p) = 0 ∷ 0 ∷ p .offset ∷ length (p .bytes) ∷ 0 ∷ 0 ∷ 0 ∷ 0 ∷ []
+outPart (refuse n p) = outRefused n p
+
+-- What a call leaves in `out`, in the list and in the table.
+abbrev pub VerdictGiven : List ℕ → ℕ → List ℕ → List ℕ → List ℕ → Type 0
+VerdictGiven head total table out left =
+    (out ≡ outVerdict (Q.verdict (length table) total head))
+    × (left ≡ after total head table)
+
+abbrev pub SizeGiven : List ℕ → ℕ → List ℕ → ℕ → List ℕ → List ℕ → Type 0
+SizeGiven head total table item out left =
+    (out ≡ outSized (Q.size (length table) total head item))
+    × (left ≡ after total head table)
+
+abbrev pub TraceGiven : List ℕ → ℕ → List ℕ → ℕ → ℕ → ℕ → List ℕ → List ℕ → Type 0
+TraceGiven head total table item x y out left =
+    (out ≡ outTraced (Q.trace (length table) total head item (point x y)))
+    × (left ≡ after total head table)
+
+abbrev pub SourcesGiven : List ℕ → ℕ → List ℕ → ℕ → List ℕ → List ℕ → List ℕ → List ℕ → Type 0
+SourcesGiven head total table item list out written left =
+    (out ≡ outListed (Q.sources (length table) total head item (length list)))
+    × (written ≡ listAfter (Q.sources (length table) total head item (length list)) list)
+    × (left ≡ after total head table)
+
+abbrev pub PropertyGiven : List ℕ → ℕ → List ℕ → ℕ → ℕ → List ℕ → List ℕ → Type 0
+PropertyGiven head total table item k out left =
+    (out ≡ outPart (Q.property (length table) total head item k))
+    × (left ≡ after total head table)

@@ -1,0 +1,189 @@
+// The five questions for C. `out` gets eight numbers: a refusal's number and place, or 0 and 0 and then the answer's values; the rest is 0.
+ghost use mathlib.Core.Path.{_≡_};
+ghost use mathlib.Core.List.{List, _++_};
+ghost use Prim.Native.Nat.{ℕ, _<_, _≤_};
+ghost use lib.ListN.{length};
+ghost use Rattle.boxes.specs.Answer.{Answer, ok};
+ghost use Rattle.contents.specs.File.{File};
+ghost use Rattle.rules.specs.Places.{placesIn};
+ghost use Rattle.rules.specs.Words.{wordsOf};
+ghost use Rattle.rules.specs.Questions.{after, partOf};
+ghost use Rattle.rules.specs.Questions as Q;
+ghost use Rattle.views.specs.View.{TableOf};
+ghost use Rattle.still.specs.Told.{toldVerdict, toldSized, toldTraced, toldListed, toldAsked, indexOf};
+ghost use Rattle.still_c.specs.Told.{outRefused, outVerdict, outSized, outTraced, outListed, outPart, VerdictGiven, SizeGiven, TraceGiven, SourcesGiven, PropertyGiven};
+use boxes::Refusal;
+use pictures::Point;
+use still::FileVerdict;
+use still::Listed;
+use still::PropertyAsked;
+use still::Sized;
+use still::Traced;
+use table::ItemId;
+use table::PropertyIndex;
+use table::Table;
+
+fn refused_numbers(f: Refusal) -> [u64; 8]
+    ensures { λ r. ⌜ r ≡ outRefused (f .number) (f .place) ⌝ }
+{
+    [f.number as u64, f.place, 0, 0, 0, 0, 0, 0]
+}
+
+// Item count, primary item.
+fn verdict_numbers(v: FileVerdict) -> [u64; 8]
+    ensures { λ r. ⌜ ((m : Answer Q.Verdict) → v ≡ toldVerdict m → r ≡ outVerdict m) ⌝ }
+{
+    match v {
+        FileVerdict::Refused(f) => refused_numbers(f),
+        FileVerdict::Accepted { items, primary } => {
+            [0, 0, items as u64, primary.0 as u64, 0, 0, 0, 0]
+        }
+    }
+}
+
+// Whether the file is accepted.
+#[no_mangle]
+pub extern "C" fn still_verdict(head: &[u8], total: u64, table: &mut [u32], out: &mut [u64; 8])
+    ensures { λ _. ⌜ VerdictGiven (now (head .entry)) total (now (table .entry)) (now (out .exit)) (now (table .exit)) ⌝ }
+{
+    let v = still::verdict(head, total, table);
+    *out = verdict_numbers(v);
+}
+
+// Reconstructed width and height, output width and height, depth.
+fn sized_numbers(s: Sized) -> [u64; 8]
+    ensures { λ r. ⌜ ((m : Answer Q.Sized) → s ≡ toldSized m → r ≡ outSized m) ⌝ }
+{
+    match s {
+        Sized::Refused(f) => refused_numbers(f),
+        Sized::Is {
+            wide,
+            high,
+            output_wide,
+            output_high,
+            depth,
+        } => [
+            0,
+            0,
+            wide as u64,
+            high as u64,
+            output_wide as u64,
+            output_high as u64,
+            depth as u64,
+            0,
+        ],
+    }
+}
+
+// The sizes and the depth of an item.
+#[no_mangle]
+pub extern "C" fn still_size(
+    head: &[u8],
+    total: u64,
+    table: &mut [u32],
+    item: u32,
+    out: &mut [u64; 8],
+)
+    ensures { λ _. ⌜ SizeGiven (now (head .entry)) total (now (table .entry)) item (now (out .exit)) (now (table .exit)) ⌝ }
+{
+    let s = still::size(head, total, table, ItemId(item));
+    *out = sized_numbers(s);
+}
+
+// 1 for a pixel or 2 for a fill, then the item, x and y there, and the items passed.
+fn traced_numbers(t: Traced) -> [u64; 8]
+    ensures { λ r. ⌜ ((m : Answer Q.Found) → t ≡ toldTraced m → r ≡ outTraced m) ⌝ }
+{
+    match t {
+        Traced::Refused(f) => refused_numbers(f),
+        Traced::Pixel { item, x, y, passed } => {
+            [0, 0, 1, item.0 as u64, x as u64, y as u64, passed as u64, 0]
+        }
+        Traced::Fill { item, x, y, passed } => {
+            [0, 0, 2, item.0 as u64, x as u64, y as u64, passed as u64, 0]
+        }
+    }
+}
+
+// Where the output pixel (x, y) of an item comes from.
+#[no_mangle]
+pub extern "C" fn still_trace(
+    head: &[u8],
+    total: u64,
+    table: &mut [u32],
+    item: u32,
+    x: u32,
+    y: u32,
+    out: &mut [u64; 8],
+)
+    ensures { λ _. ⌜ TraceGiven (now (head .entry)) total (now (table .entry)) item x y (now (out .exit)) (now (table .exit)) ⌝ }
+{
+    let t = still::trace(head, total, table, ItemId(item), Point { x, y });
+    *out = traced_numbers(t);
+}
+
+// How many IDs were written.
+fn listed_numbers(l: Listed) -> [u64; 8]
+    ensures { λ r. ⌜ ((m : Answer (List ℕ)) → l ≡ toldListed m → r ≡ outListed m) ⌝ }
+{
+    match l {
+        Listed::Refused(f) => refused_numbers(f),
+        Listed::Is(count) => [0, 0, count as u64, 0, 0, 0, 0, 0],
+    }
+}
+
+// The coded items that an item needs, into `list`.
+#[no_mangle]
+pub extern "C" fn still_sources(
+    head: &[u8],
+    total: u64,
+    table: &mut [u32],
+    item: u32,
+    list: &mut [u32],
+    out: &mut [u64; 8],
+)
+    ensures { λ _. ⌜ SourcesGiven (now (head .entry)) total (now (table .entry)) item (now (list .entry)) (now (out .exit)) (now (list .exit)) (now (table .exit)) ⌝ }
+{
+    let l = still::sources(head, total, table, ItemId(item), list);
+    *out = listed_numbers(l);
+}
+
+// The offset and the length of a property's box, by its record in the table of an accepted file; 0 and 0 for index 0.
+fn part_numbers(table: &[u32], index: PropertyIndex) -> [u64; 8]
+    ensures { λ r. ⌜ ((total : ℕ) (head x : List ℕ) (f : File) → now (table .entry) ≡ wordsOf total head f ++ x → TableOf (now (table .entry)) head (placesIn total head) f → index .0 ≤ length (f .properties) → r ≡ outPart (ok (partOf (placesIn total head) f (index .0)))) ⌝ }
+{
+    let k = index.0;
+    if k == 0 {
+        return [0; 8];
+    }
+    let w = Table::PROPERTIES + Table::PROPERTY_WORDS * ((k - 1) as usize);
+    let offset = table::word(table, w + 1);
+    let size = table::word(table, w + 2);
+    [0, 0, offset as u64, size as u64, 0, 0, 0, 0]
+}
+
+// The same for the property that was asked for, of any file.
+fn property_numbers(table: &[u32], a: PropertyAsked) -> [u64; 8]
+    ensures { λ r. ⌜ ((total : ℕ) (head lent : List ℕ) (item k : ℕ) → total < 18446744073709551616 → a ≡ toldAsked (indexOf (length lent) total head item k) → now (table .entry) ≡ after total head lent → r ≡ outPart (Q.property (length lent) total head item k)) ⌝ }
+{
+    match a {
+        PropertyAsked::Refused(f) => refused_numbers(f),
+        PropertyAsked::Is(index) => part_numbers(table, index),
+    }
+}
+
+// Where the property box k of an item lies in the head.
+#[no_mangle]
+pub extern "C" fn still_property(
+    head: &[u8],
+    total: u64,
+    table: &mut [u32],
+    item: u32,
+    k: u32,
+    out: &mut [u64; 8],
+)
+    ensures { λ _. ⌜ PropertyGiven (now (head .entry)) total (now (table .entry)) item k (now (out .exit)) (now (table .exit)) ⌝ }
+{
+    let a = still::property_asked(head, total, table, ItemId(item), k);
+    *out = property_numbers(&*table, a);
+}

@@ -1,0 +1,100 @@
+/* The still reader's five questions, for C and C++. Link libstill_c.a, which `rt staticlib still_c` writes to target/staticlib/
+ * (x86-64 Linux; it needs only memcpy and memset). examples/ask_still.c shows a whole program.
+ *
+ * What a caller lends:
+ *   head, head_len    the file's first bytes; at most STILL_HEAD_MAX, else refusal 2
+ *   total             the length of the whole file
+ *   table, table_len  at least STILL_TABLE_WORDS words, else refusal 1; what stands in it does not matter
+ *   out               STILL_OUT numbers, all of them written by every call
+ * Nothing needs to be checked before a call: any bytes, numbers and lengths have an answer. What C cannot show is the caller's: each pointer
+ * leads to as many elements as its length says, aligned for its type, writable except for the head, and no two of them overlap. Where a length
+ * is 0 the pointer is not followed and may be null; out may not.
+ * Nothing is kept between calls, nothing is allocated, and every call ends. Threads may call at once if each lends its own table, list and out.
+ *
+ * What every call leaves:
+ *   out[0], out[1]    the refusal's number and place, and the rest of out 0; or 0 and 0, then the answer's values as told below, and the rest 0
+ *   table             after refusal 1 as it was; after 2 to 20 its first STILL_TABLE_WORDS words are 0; otherwise they are the file's.
+ *                     Words behind them are never written.
+ */
+#ifndef STILL_H
+#define STILL_H
+
+#include <stddef.h>
+#include <stdint.h>
+
+#define STILL_OUT 8
+#define STILL_TABLE_WORDS 11280
+#define STILL_HEAD_MAX 65536
+
+/* The most that a file may have; more is refusal 9. An item has at most STILL_MAX_ITEMS sources, so a list of that length is never too short. */
+#define STILL_MAX_ITEMS 256
+#define STILL_MAX_PROPERTIES 256
+#define STILL_MAX_ASSOCIATIONS 2048
+#define STILL_MAX_TARGETS 2048
+#define STILL_MAX_EXTENTS 512
+
+/* out[0]. The place, out[1], is 0 for 1, 2, 4 and 5; for 3 and 6 to 11 where the box begins in the head; from 12 on the item's ID. */
+enum still_refusal {
+    STILL_ACCEPTED = 0,
+    STILL_TABLE_TOO_SHORT = 1,       /* the table that was lent is too short */
+    STILL_HEAD_TOO_LONG = 2,         /* more than 65,536 bytes were lent, or the file is said to be shorter than what was lent */
+    STILL_BAD_BOX_SIZE = 3,          /* a box says an impossible size, or reaches past what it lies in */
+    STILL_NOT_A_STILL = 4,           /* the file does not begin with an `ftyp` that names the brand `mif1` */
+    STILL_NO_META = 5,               /* there is no `meta` box wholly in the head */
+    STILL_UNKNOWN_VERSION = 6,       /* a box has a version that this reader does not know */
+    STILL_BOX_MISSING_OR_TWICE = 7,  /* the place is the container, or the second box */
+    STILL_BAD_CONTENT_LENGTH = 8,    /* a box ends inside one of its fields, or has bytes left over */
+    STILL_OVER_A_LIMIT = 9,          /* more items, properties, associations, targets or extents than the limits allow */
+    STILL_FORBIDDEN_VALUE = 10,      /* a repeated ID, a wrong handler, IDs out of order */
+    STILL_NAMES_NOTHING = 11,        /* an item or property is named that does not exist */
+    STILL_BAD_PRIMARY = 12,          /* the primary item is not listed, no picture, or hidden */
+    STILL_BYTES_ELSEWHERE = 13,      /* an item's bytes lie where this reader does not go: another method, another file, or no length */
+    STILL_BYTES_PAST_THE_END = 14,   /* an item's bytes lie past the end of their source, or a coded picture has none */
+    STILL_PROTECTED_OR_UNKNOWN = 15, /* a picture is protected, or needs a property that this reader does not know */
+    STILL_SIZE_NOT_SAID_ONCE = 16,   /* a picture does not say its size exactly once, before its turns and crops */
+    STILL_BAD_DERIVATION = 17,       /* a derived picture has wrong inputs or a damaged body */
+    STILL_MADE_FROM_ITSELF = 18,     /* a picture is made from itself */
+    STILL_TOO_DEEP = 19,             /* pictures are nested more than 16 deep */
+    STILL_SIZES_DO_NOT_FIT = 20,     /* sizes do not fit together */
+    STILL_NO_SUCH_ITEM = 21,         /* there is no item with the ID that was asked for */
+    STILL_NO_PICTURE = 22,           /* that item is no picture */
+    STILL_OUTSIDE_THE_PICTURE = 23,  /* that pixel is outside the picture */
+    STILL_LIST_TOO_SHORT = 24,       /* the list that was lent is too short */
+    STILL_NO_SUCH_PROPERTY = 25      /* the item has no property with that number */
+};
+
+/* out[2] of still_trace */
+enum still_end { STILL_PIXEL = 1, STILL_FILL = 2 };
+
+#ifdef __cplusplus
+extern "C" {
+#endif
+
+/* Whether the file keeps the rules. out[2] how many items it has, out[3] the ID of its primary item. */
+void still_verdict(const uint8_t *head, size_t head_len, uint64_t total, uint32_t *table, size_t table_len, uint64_t out[STILL_OUT]);
+
+/* The sizes of an item that is a picture. out[2], out[3] its reconstructed width and height; out[4], out[5] those of its output, after its
+ * turns and crops; out[6] its depth. */
+void still_size(const uint8_t *head, size_t head_len, uint64_t total, uint32_t *table, size_t table_len, uint32_t item,
+                uint64_t out[STILL_OUT]);
+
+/* Where the output pixel (x, y) of an item comes from. out[2] STILL_PIXEL for a pixel of a coded item, STILL_FILL for an overlay's fill;
+ * out[3] that item's ID; out[4], out[5] x and y there; out[6] how many items were passed, both ends counted. */
+void still_trace(const uint8_t *head, size_t head_len, uint64_t total, uint32_t *table, size_t table_len, uint32_t item, uint32_t x,
+                 uint32_t y, uint64_t out[STILL_OUT]);
+
+/* The IDs of all coded items that an item needs, each once, in table order; a coded item lists itself. out[2] how many were written to the
+ * list's first entries; the others stay as they were, and a refusal writes none. */
+void still_sources(const uint8_t *head, size_t head_len, uint64_t total, uint32_t *table, size_t table_len, uint32_t item, uint32_t *list,
+                   size_t list_len, uint64_t out[STILL_OUT]);
+
+/* The box of an item's property k, counted from 1, header included: out[2] where it begins in the head, out[3] how many bytes it has, which
+ * all lie in the head. Both are 0 where the association names no property. */
+void still_property(const uint8_t *head, size_t head_len, uint64_t total, uint32_t *table, size_t table_len, uint32_t item, uint32_t k,
+                    uint64_t out[STILL_OUT]);
+
+#ifdef __cplusplus
+}
+#endif
+
+#endif

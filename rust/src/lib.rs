@@ -1,0 +1,23 @@
+//! The still reader's five questions. Every answer is proved for all bytes, numbers and lengths; this package only turns the archive's eight numbers into Rust's types.
+//!
+//! A question is asked of a [`Still`], the file's first bytes and its whole length, and is lent a [`Table`].
+//! The archive is for x86-64 Linux and is written by `rt staticlib still_c`; without it only [`Fault`] is here.
+
+mod fault;
+#[cfg(still_linked)]
+mod questions;
+
+pub use fault::{Fault, Refusal};
+#[cfg(still_linked)]
+pub use questions::{End, ItemId, Size, Still, Table, Trace, Verdict};
+
+/// The most bytes of a file that a question is lent.
+pub const HEAD_MAX: usize = 65_536;
+/// The words of a table.
+pub const TABLE_WORDS: usize = 11_280;
+/// The most that a file may have. An item has at most `MAX_ITEMS` sources, so a list of that length is never too short.
+pub const MAX_ITEMS: usize = 256;
+pub const MAX_PROPERTIES: usize = 256;
+pub const MAX_ASSOCIATIONS: usize = 2_048;
+pub const MAX_TARGETS: usize = 2_048;
+pub const MAX_EXTENTS: usize = 512;

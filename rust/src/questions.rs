@@ -1,0 +1,129 @@
+//! The questions over the archive.
+use crate::{Fault, Refusal, HEAD_MAX, TABLE_WORDS};
+
+const OUT: usize = 8;
+
+extern "C" {
+    fn still_verdict(head: *const u8, head_len: usize, total: u64, table: *mut u32, table_len: usize, out: *mut [u64; OUT]);
+    fn still_size(head: *const u8, head_len: usize, total: u64, table: *mut u32, table_len: usize, item: u32, out: *mut [u64; OUT]);
+    fn still_trace(head: *const u8, head_len: usize, total: u64, table: *mut u32, table_len: usize, item: u32, x: u32, y: u32, out: *mut [u64; OUT]);
+    fn still_sources(head: *const u8, head_len: usize, total: u64, table: *mut u32, table_len: usize, item: u32, list: *mut u32, list_len: usize, out: *mut [u64; OUT]);
+    fn still_property(head: *const u8, head_len: usize, total: u64, table: *mut u32, table_len: usize, item: u32, k: u32, out: *mut [u64; OUT]);
+}
+
+// A question with the numbers of its own: the answer's values, or the refusal.
+macro_rules! ask {
+    ($question:ident, $still:ident, $table:ident $(, $own:expr)*) => {{
+        let mut out = [0; OUT];
+        // SAFETY: every pointer comes from a live slice and goes with that slice's length, Rust's borrows keep them apart, and `out` has its eight numbers.
+        unsafe { $question($still.head.as_ptr(), $still.head.len(), $still.total, $table.0.as_mut_ptr(), TABLE_WORDS, $($own,)* &mut out) };
+        told(out)
+    }};
+}
+
+fn told(out: [u64; OUT]) -> Result<[u64; OUT - 2], Refusal> {
+    match out {
+        [0, 0, values @ ..] => Ok(values),
+        [number, place, ..] => Err(Refusal { fault: Fault::ALL[number as usize - 1], place }),
+    }
+}
+
+/// The item_ID of an item; never its row.
+#[derive(Clone, Copy, Debug, PartialEq, Eq)]
+pub struct ItemId(pub u32);
+
+/// The words that a question fills. What stands in them before does not matter, so one table serves any number of questions.
+pub struct Table(Box<[u32; TABLE_WORDS]>);
+
+impl Table {
+    pub fn new() -> Table {
+        Table(Box::new([0; TABLE_WORDS]))
+    }
+
+    /// The file's words after an answer or a refusal from 21 on; all 0 after another refusal.
+    pub fn words(&self) -> &[u32; TABLE_WORDS] {
+        &self.0
+    }
+}
+
+impl Default for Table {
+    fn default() -> Table {
+        Table::new()
+    }
+}
+
+#[derive(Clone, Copy, Debug, PartialEq, Eq)]
+pub struct Verdict {
+    pub items: u32,
+    pub primary: ItemId,
+}
+
+/// The reconstructed size of a picture, the size of its output after its turns and crops, and its depth.
+#[derive(Clone, Copy, Debug, PartialEq, Eq)]
+pub struct Size {
+    pub wide: u32,
+    pub high: u32,
+    pub output_wide: u32,
+    pub output_high: u32,
+    pub depth: u32,
+}
+
+/// A pixel of a coded item, or the fill of an overlay.
+#[derive(Clone, Copy, Debug, PartialEq, Eq)]
+pub enum End {
+    Pixel,
+    Fill,
+}
+
+/// Where a pixel comes from: the item, the point there, and how many items were passed, both ends counted.
+#[derive(Clone, Copy, Debug, PartialEq, Eq)]
+pub struct Trace {
+    pub end: End,
+    pub item: ItemId,
+    pub x: u32,
+    pub y: u32,
+    pub passed: u32,
+}
+
+/// A file: its first bytes, at most [`HEAD_MAX`], and its whole length.
+#[derive(Clone, Copy, Debug)]
+pub struct Still<'a> {
+    pub head: &'a [u8],
+    pub total: u64,
+}
+
+impl<'a> Still<'a> {
+    /// A file of which all bytes are at hand.
+    pub fn of(file: &'a [u8]) -> Still<'a> {
+        Still { head: &file[..file.len().min(HEAD_MAX)], total: file.len() as u64 }
+    }
+
+    /// Whether the file keeps the rules, with how many items it has and which is the primary.
+    pub fn verdict(self, table: &mut Table) -> Result<Verdict, Refusal> {
+        let [items, primary, ..] = ask!(still_verdict, self, table)?;
+        Ok(Verdict { items: items as u32, primary: ItemId(primary as u32) })
+    }
+
+    pub fn size(self, table: &mut Table, item: ItemId) -> Result<Size, Refusal> {
+        let [wide, high, output_wide, output_high, depth, _] = ask!(still_size, self, table, item.0)?.map(|n| n as u32);
+        Ok(Size { wide, high, output_wide, output_high, depth })
+    }
+
+    /// Where the output pixel (x, y) of an item comes from.
+    pub fn trace(self, table: &mut Table, item: ItemId, x: u32, y: u32) -> Result<Trace, Refusal> {
+        let [end, item, x, y, passed, _] = ask!(still_trace, self, table, item.0, x, y)?.map(|n| n as u32);
+        Ok(Trace { end: if end == 1 { End::Pixel } else { End::Fill }, item: ItemId(item), x, y, passed })
+    }
+
+    /// The IDs of all coded items that an item needs, each once, in table order: the front of the list that is lent. A refusal writes nothing to it.
+    pub fn sources<'l>(self, table: &mut Table, item: ItemId, list: &'l mut [u32]) -> Result<&'l [u32], Refusal> {
+        let [count, ..] = ask!(still_sources, self, table, item.0, list.as_mut_ptr(), list.len())?;
+        Ok(&list[..count as usize])
+    }
+
+    /// The box of an item's property k, counted from 1, header included, as a part of the caller's own head; empty where the association names no property.
+    pub fn property(self, table: &mut Table, item: ItemId, k: u32) -> Result<&'a [u8], Refusal> {
+        let [offset, length, ..] = ask!(still_property, self, table, item.0, k)?.map(|n| n as usize);
+        Ok(&self.head[offset..offset + length])
+    }
+}

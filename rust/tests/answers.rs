@@ -1,0 +1,74 @@
+//! The questions of crates/answers, with their right answers, through the archive. Digests of tables are not made here: those lines are passed over.
+#![cfg(still_linked)]
+use still::{End, ItemId, Refusal, Still, Table};
+
+static QUESTIONS: &[u8] = include_bytes!("../../crates/answers/stdin");
+static ANSWERS: &str = include_str!("../../crates/answers/stdout");
+
+struct Input(&'static [u8]);
+
+impl Input {
+    fn take(&mut self, n: usize) -> &'static [u8] {
+        let (front, rest) = self.0.split_at(n);
+        self.0 = rest;
+        front
+    }
+
+    // a number of n bytes, the highest first
+    fn number(&mut self, n: usize) -> u64 {
+        self.take(n).iter().fold(0, |sum, &b| sum * 256 + b as u64)
+    }
+
+    fn word(&mut self) -> u32 {
+        self.number(4) as u32
+    }
+
+    fn text(&mut self) -> &'static [u8] {
+        let n = self.word() as usize;
+        self.take(n)
+    }
+}
+
+fn sum_of(part: &[u8]) -> u32 {
+    part.iter().fold(0u32, |sum, &b| sum.wrapping_mul(31).wrapping_add(b as u32))
+}
+
+fn numbers(list: &[u32]) -> String {
+    list.iter().map(u32::to_string).collect::<Vec<_>>().join(" ")
+}
+
+// The question and its answer as they stand in a line.
+fn answer(still: Still, table: &mut Table, kind: u32, id: u32, x: u32, y: u32) -> (String, Result<String, Refusal>) {
+    let item = ItemId(id);
+    match kind {
+        0 => ("verdict\t".into(), still.verdict(table).map(|v| numbers(&[v.items, v.primary.0]))),
+        2 => (format!("size\t{id}"), still.size(table, item).map(|s| numbers(&[s.wide, s.high, s.output_wide, s.output_high, s.depth]))),
+        3 => (
+            format!("trace\t{id} {x} {y}"),
+            still.trace(table, item, x, y).map(|t| format!("{} {}", if t.end == End::Pixel { "pixel" } else { "fill" }, numbers(&[t.item.0, t.x, t.y, t.passed]))),
+        ),
+        4 => (format!("sources\t{id} {x}"), still.sources(table, item, &mut vec![9; x as usize]).map(numbers)),
+        _ => (format!("prop\t{id} {x}"), still.property(table, item, x).map(|p| numbers(&[p.len() as u32, sum_of(p)]))),
+    }
+}
+
+#[test]
+fn all_questions() {
+    let (mut input, mut table, mut lines) = (Input(QUESTIONS), Table::new(), ANSWERS.lines());
+    for _ in 0..input.word() {
+        let name = std::str::from_utf8(input.text()).unwrap();
+        let total = input.number(8);
+        let head = input.text();
+        for _ in 0..input.word() {
+            let [kind, id, x, y] = [(); 4].map(|_| input.word());
+            let line = lines.next().unwrap();
+            if kind == 1 {
+                continue;
+            }
+            let (question, told) = answer(Still { head, total }, &mut table, kind, id, x, y);
+            let told = told.unwrap_or_else(|r| format!("refused {} {}", r.fault as u8, r.place));
+            assert_eq!(line, format!("{name}\t{total}\t{question}\t{told}"));
+        }
+    }
+    assert_eq!((lines.next(), input.0.len()), (None, 0));
+}

@@ -1,0 +1,79 @@
+/* face FILE: what a caller from C may lend, on a file whose primary item 2 needs item 1: null pointers with length 0, a table that is too short, and words and entries behind what is written. */
+#include <stdio.h>
+#include <string.h>
+
+#include "still.h"
+
+#define TABLE (STILL_TABLE_WORDS + 20)
+
+static uint8_t head[STILL_HEAD_MAX];
+static uint32_t table[TABLE];
+static uint32_t list[4];
+static uint64_t out[STILL_OUT];
+static int wrong;
+
+/* Whether out has these numbers, the rest 0; and then it is spoiled for the next call. */
+static void told(const char *what, uint64_t number, uint64_t place, uint64_t a, uint64_t b)
+{
+    uint64_t right[STILL_OUT] = {0};
+    right[0] = number, right[1] = place, right[2] = a, right[3] = b;
+    if (memcmp(out, right, sizeof out) != 0) {
+        printf("wrong: %s\n", what);
+        wrong = 1;
+    }
+    memset(out, 7, sizeof out);
+}
+
+/* Whether all n words are w. */
+static void kept(const char *what, const uint32_t *words, size_t n, uint32_t w)
+{
+    size_t i;
+    for (i = 0; i < n; i++) {
+        if (words[i] != w) {
+            printf("wrong: %s, word %lu\n", what, (unsigned long)i);
+            wrong = 1;
+            return;
+        }
+    }
+}
+
+int main(int argc, char **argv)
+{
+    FILE *file = argc == 2 ? fopen(argv[1], "rb") : NULL;
+    size_t n = file ? fread(head, 1, sizeof head, file) : 0;
+    memset(table, 9, sizeof table);
+    memset(list, 9, sizeof list);
+
+    still_verdict(NULL, 0, 0, NULL, 0, out);
+    told("verdict, nothing lent", STILL_TABLE_TOO_SHORT, 0, 0, 0);
+    still_size(NULL, 0, 0, NULL, 0, 1, out);
+    told("size, nothing lent", STILL_TABLE_TOO_SHORT, 0, 0, 0);
+    still_trace(NULL, 0, 0, NULL, 0, 1, 0, 0, out);
+    told("trace, nothing lent", STILL_TABLE_TOO_SHORT, 0, 0, 0);
+    still_sources(NULL, 0, 0, NULL, 0, 1, NULL, 0, out);
+    told("sources, nothing lent", STILL_TABLE_TOO_SHORT, 0, 0, 0);
+    still_property(NULL, 0, 0, NULL, 0, 1, 1, out);
+    told("property, nothing lent", STILL_TABLE_TOO_SHORT, 0, 0, 0);
+    still_verdict(head, n, n, table, STILL_TABLE_WORDS - 1, out);
+    told("a table of one word less", STILL_TABLE_TOO_SHORT, 0, 0, 0);
+    kept("refusal 1 writes nothing", table, TABLE, 0x09090909);
+
+    still_verdict(NULL, 0, n, table, TABLE, out);
+    told("no head", STILL_NOT_A_STILL, 0, 0, 0);
+    kept("a refused file's table", table, STILL_TABLE_WORDS, 0);
+    kept("words behind it", table + STILL_TABLE_WORDS, 20, 0x09090909);
+
+    still_sources(head, n, n, table, TABLE, 2, NULL, 0, out);
+    told("no list", STILL_LIST_TOO_SHORT, 2, 0, 0);
+    still_sources(head, n, n, table, TABLE, 2, list, 4, out);
+    told("sources", 0, 0, 1, 0);
+    kept("the source", list, 1, 1);
+    kept("entries behind it", list + 1, 3, 0x09090909);
+    kept("words behind the file's table", table + STILL_TABLE_WORDS, 20, 0x09090909);
+
+    still_property(head, n, n, table, TABLE, 2, 2, out);
+    told("property", 0, 0, 201, 9);
+    still_trace(head, n, n, table, TABLE, 2, 480, 0, out);
+    told("trace outside", STILL_OUTSIDE_THE_PICTURE, 2, 0, 0);
+    return wrong;
+}
