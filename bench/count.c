@@ -1,10 +1,16 @@
-/* Makes each call once to settle what the loader does late, then once more with callgrind counting only that call.
- * count FOLDER WHO...: WHO is proved, second or libheif; the cases are those of FOLDER/cases.txt. Each count is a dump
- * with the label `who question name`, and what was answered goes to standard output under the same label. */
+/* Makes each call once to settle what the loader does late, then once more between begin_count and end_count, where its
+ * instructions are counted: by callgrind (-DCALLGRIND), or by plugin.c, which knows the two functions by their names.
+ * count FOLDER WHO...: WHO is proved, second or libheif; the cases are those of FOLDER/cases.txt. Each count is a dump,
+ * and each has its line on standard output, in the same order: the label `who question name` and what was answered. */
 #include <stdio.h>
 #include <stdlib.h>
 #include <string.h>
+#ifdef CALLGRIND
 #include <valgrind/callgrind.h>
+#else
+#define CALLGRIND_TOGGLE_COLLECT __asm__ volatile("")
+#define CALLGRIND_DUMP_STATS __asm__ volatile("")
+#endif
 
 #include "second.h"
 #include "still.h"
@@ -14,9 +20,10 @@
 
 enum { WORDS = 11280 };
 
-static uint8_t head[1 << 17];
-static uint32_t table[WORDS], list[256];
-static uint64_t out[8];
+/* By where its bytes begin memset goes round once more or less: here, and on the stack (main), that is held the same. */
+static _Alignas(64) uint8_t head[1 << 17];
+static _Alignas(64) uint32_t table[WORDS], list[256];
+static _Alignas(64) uint64_t out[8];
 
 struct question {
     char name[80];
@@ -46,12 +53,21 @@ static void ask_second(int which, const struct question *q)
     }
 }
 
-static void label_dump(const char *who, const char *question, const char *name)
+/* noipa: what stands around a call is compiled the same, whatever is in these two. */
+__attribute__((noinline, noipa)) void begin_count(void)
 {
-    char label[200];
-    snprintf(label, sizeof label, "%s %s %s", who, question, name);
-    CALLGRIND_DUMP_STATS_AT(label);
-    printf("%s:", label);
+    CALLGRIND_TOGGLE_COLLECT;
+}
+
+__attribute__((noinline, noipa)) void end_count(void)
+{
+    CALLGRIND_TOGGLE_COLLECT;
+    CALLGRIND_DUMP_STATS;
+}
+
+static void say(const char *who, const char *question, const char *name)
+{
+    printf("%s %s %s:", who, question, name);
     for (int k = 0; k < 8; k++)
         printf(" %llu", (unsigned long long)out[k]);
     printf("\n");
@@ -61,10 +77,10 @@ static void count_reader(const char *who, void (*ask)(int, const struct question
 {
     for (int which = 0; which < 4; which++) {
         ask(which, q);
-        CALLGRIND_TOGGLE_COLLECT;
+        begin_count();
         ask(which, q);
-        CALLGRIND_TOGGLE_COLLECT;
-        label_dump(who, questions[which], q->name);
+        end_count();
+        say(who, questions[which], q->name);
     }
 }
 
@@ -73,10 +89,10 @@ static void open_libheif(const struct question *q, int counted)
 {
     struct heif_context *context = heif_context_alloc();
     if (counted)
-        CALLGRIND_TOGGLE_COLLECT;
+        begin_count();
     struct heif_error error = heif_context_read_from_memory_without_copy(context, head, q->length, NULL);
     if (counted)
-        CALLGRIND_TOGGLE_COLLECT;
+        end_count();
     memset(out, 0, sizeof out);
     out[0] = error.code;
     out[1] = error.subcode;
@@ -87,7 +103,7 @@ static void count_libheif(const struct question *q)
 {
     open_libheif(q, 0);
     open_libheif(q, 1);
-    label_dump("libheif", "open", q->name);
+    say("libheif", "open", q->name);
 }
 #endif
 
@@ -115,16 +131,14 @@ static void count_one(const char *who, const struct question *q)
 #endif
 }
 
-int main(int argc, char **argv)
+static __attribute__((noinline)) int count_all(int argc, char **argv)
 {
     char path[1024];
     struct question q;
-    if (argc < 3)
-        return fprintf(stderr, "usage: count FOLDER WHO...\n"), 2;
     /* The cost of counting nothing, to be taken off. */
-    CALLGRIND_TOGGLE_COLLECT;
-    CALLGRIND_TOGGLE_COLLECT;
-    label_dump("nothing", "-", "-");
+    begin_count();
+    end_count();
+    say("nothing", "-", "-");
     snprintf(path, sizeof path, "%s/cases.txt", argv[1]);
     FILE *cases = fopen(path, "r");
     if (cases == NULL)
@@ -137,4 +151,16 @@ int main(int argc, char **argv)
     }
     fclose(cases);
     return 0;
+}
+
+int main(int argc, char **argv)
+{
+    if (argc < 3)
+        return fprintf(stderr, "usage: count FOLDER WHO...\n"), 2;
+    /* The stack begins where the environment ends; this brings it to the same place of a page. */
+    volatile char *gap = __builtin_alloca((uintptr_t)__builtin_frame_address(0) % 4096 + 1);
+    *gap = 0;
+    int status = count_all(argc, argv);
+    *gap = 1;
+    return status;
 }

@@ -1,6 +1,7 @@
-"""Makes RESULTS.md and growth.svg from callgrind's dumps.
+"""Makes RESULTS.md and growth.svg from dumps in callgrind's format.
 
-report.py WORK OUT [LIBHEIF]: WORK holds files/, dumps/ and answers.txt; LIBHEIF is the version that was measured.
+report.py WORK OUT [LIBHEIF]: WORK holds files/ and, for each program, counts/PROGRAM/ with its answers.txt and its dumps
+count.1, count.2 .. in the order of the answers; LIBHEIF is the version that was measured.
 """
 
 import collections
@@ -32,46 +33,48 @@ SAID = {
 }
 
 
+def plain(function):
+    """Without callgrind's mark of a function that calls itself, and the C library's names for one of several versions."""
+    function = re.sub(r"'\d+$", "", function)
+    return re.sub(r"^(?:__)?mem(set|cpy|move)[_@].*", lambda m: "memset" if m[1] == "set" else "memcpy", function)
+
+
 def read_dump(path):
-    """The label, the total and the cost of each function by itself."""
-    label, total, function, skip = None, 0, None, False
+    """The total and the cost of each function by itself."""
+    total, function, skip = 0, None, False
     own = collections.Counter()
     for line in path.read_text(errors="replace").splitlines():
-        if line.startswith("desc: Trigger: Client Request: "):
-            label = line.rsplit("Client Request: ", 1)[1]
-        elif line.startswith("totals: "):
+        if line.startswith("totals: "):
             total = int(line.split()[1])
         elif line.startswith("fn="):
-            function = line[3:]
+            function = plain(line[3:])
         elif line.startswith("calls="):
             skip = True
         elif re.match(r"^[0-9+*-]", line):
             if not skip:
                 own[function] += int(line.split()[1])
             skip = False
-    return label, total, own
-
-
-def read_all(work):
-    counts, profiles = {}, {}
-    for path in (work / "dumps").iterdir():
-        label, total, own = read_dump(path)
-        if label:
-            counts[label], profiles[label] = total, own
-    nothing = counts.pop("nothing - -")
-    return {label: total - nothing for label, total in counts.items()}, profiles
+    return total, own
 
 
 class Results:
     def __init__(self, work):
-        self.counts, self.profiles = read_all(work)
-        self.cases = {}
+        self.counts, self.profiles, self.answers, self.cases = {}, {}, {}, {}
+        for folder in (work / "counts").iterdir():
+            self.read_program(folder)
         for line in (work / "files" / "cases.txt").read_text().splitlines():
             name, length, *_ = line.split()
             self.cases[name] = int(length)
-        self.answers = {}
-        for line in (work / "answers.txt").read_text().splitlines():
+
+    def read_program(self, folder):
+        """The first dump is the cost of counting nothing."""
+        answers = (folder / "answers.txt").read_text().splitlines()
+        assert len(answers) == len(list(folder.glob("count.*"))), f"answers and dumps in {folder} are not as many"
+        nothing, _ = read_dump(folder / "count.1")
+        for place, line in enumerate(answers, 1):
             label, numbers = line.split(": ")
+            total, self.profiles[label] = read_dump(folder / f"count.{place}")
+            self.counts[label] = total - nothing
             self.answers[label] = numbers.split()
 
     def proved(self, question, name):
@@ -231,10 +234,11 @@ def chart(results):
 
 HEAD = """# Executed instructions
 
-Made by `bench/run`; do not edit. Each number is the x86-64 instructions of one call, counted by callgrind, the same in
-every run. Cells hold the proved library, the second reading (tests/second/second.c by the kit's own clang at
--O3 -march=x86-64) and the proved one as a multiple of the second. Both take `memset` and `memcpy` from the same C
-library, held to its plain x86-64 versions. Files are made by bench/files.py; `stress-*` are the conformance folder's.
+Made by `bench/run`; do not edit. Each number is the x86-64 instructions of one call, counted by callgrind or, on other
+processors, by bench/plugin.c in qemu; it is the same in every run. Cells hold the proved library, the second reading
+(tests/second/second.c by the kit's own clang at -O3 -march=x86-64) and the proved one as a multiple of the second. Both
+take `memset` and `memcpy` from the same C library, held to its plain x86-64 versions. Files are made by bench/files.py;
+`stress-*` are the conformance folder's.
 
 """
 

@@ -3,7 +3,7 @@ ghost use mathlib.Core.Path.{_≡_};
 ghost use Prim.Native.Nat.{_+_, _-_, _≤_};
 ghost use Rattle.pictures.specs.Turn.{Fits};
 ghost use Rattle.pictures.specs.declared.Turn.the-variants.{Crop};
-ghost use Rattle.canvas.specs.Margins.{marginsAfter};
+ghost use Rattle.canvas.specs.Margins.{margins, marginsAfter};
 use crate::number::put;
 use crate::number::put_with;
 use crate::pose::pose_of;
@@ -114,6 +114,17 @@ pub struct Margins {
     pub bottom: u32,
 }
 
+fn margins_of(left: u32, top: u32, right: u32, bottom: u32) -> Margins
+    ensures { λ r. ⌜ r ≡ margins left top right bottom ⌝ }
+{
+    Margins {
+        left,
+        top,
+        right,
+        bottom,
+    }
+}
+
 // A margin to which so much is added. It wraps where no picture is.
 fn wider(margin: u32, more: u32) -> u32
     ensures { λ r. ⌜ (margin + more ≤ 65535 → r ≡ margin + more) ⌝ }
@@ -156,36 +167,11 @@ pub fn margins_after(t: Turn, s: Size, m: Margins) -> Margins
 {
     match t {
         Turn::Stay => m,
-        Turn::Left => Margins {
-            left: m.top,
-            top: m.right,
-            right: m.bottom,
-            bottom: m.left,
-        },
-        Turn::Half => Margins {
-            left: m.right,
-            top: m.bottom,
-            right: m.left,
-            bottom: m.top,
-        },
-        Turn::Right => Margins {
-            left: m.bottom,
-            top: m.left,
-            right: m.top,
-            bottom: m.right,
-        },
-        Turn::FlipX => Margins {
-            left: m.right,
-            top: m.top,
-            right: m.left,
-            bottom: m.bottom,
-        },
-        Turn::FlipY => Margins {
-            left: m.left,
-            top: m.bottom,
-            right: m.right,
-            bottom: m.top,
-        },
+        Turn::Left => margins_of(m.top, m.right, m.bottom, m.left),
+        Turn::Half => margins_of(m.right, m.bottom, m.left, m.top),
+        Turn::Right => margins_of(m.bottom, m.left, m.top, m.right),
+        Turn::FlipX => margins_of(m.right, m.top, m.left, m.bottom),
+        Turn::FlipY => margins_of(m.left, m.bottom, m.right, m.top),
         Turn::Crop {
             left,
             top,

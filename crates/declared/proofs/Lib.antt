@@ -2,4 +2,4 @@ pub mod NamedLaws
 pub mod EssentialLaws
 pub mod IspeLaws
 pub mod SizeLaws
-pub mod FaultLaws
+pub mod ToldLaws

@@ -3,17 +3,17 @@ ghost use mathlib.Core.Path.{_≡_};
 ghost use mathlib.Core.List.{List, []};
 ghost use Prim.Native.Nat.{ℕ, _≤_, _<_};
 ghost use lib.ListN.{length, getD};
+ghost use Rattle.fields.specs.Choice.{pick};
 ghost use Rattle.fields.specs.Field.{beAt};
 ghost use Rattle.boxes.specs.Types.{knownProperty};
 ghost use Rattle.contents.specs.File.{File};
-ghost use Rattle.pictures.specs.Turn.{size, sizeThrough};
-ghost use Rattle.pictures.specs.Decode.{transform, turnsOf};
+ghost use Rattle.pictures.specs.Turn.{size};
+ghost use Rattle.pictures.specs.Decode.{transform};
 ghost use Rattle.rules.specs.Places.{Places};
-ghost use Rattle.rules.specs.Joined.{associationsOf, boxesOf, typesOf, itemAt};
-ghost use Rattle.rules.specs.Derivations.{declaredIn};
-ghost use Rattle.rules.specs.Rules.{essentialKnown, goodIspe, rule15-16};
-ghost use Rattle.views.specs.View.{TableOf, Judging, idOf};
-ghost use Rattle.views.specs.Told.{faultOf};
+ghost use Rattle.rules.specs.Joined.{associationsOf, boxesOf, typesOf};
+ghost use Rattle.rules.specs.Rules.{essentialKnown};
+ghost use Rattle.views.specs.View.{TableOf, idOf};
+ghost use Rattle.declared.specs.Told.{toldSizes};
 use pictures::Size;
 use table::ItemRow;
 
@@ -38,6 +38,9 @@ const IMIR: u32 = 0x696d6972;
 const HVCC: u32 = 0x68766343;
 
 const JPGC: u32 = 0x6a706743;
+
+// The word of an essential association has bit 15.
+const ESSENTIAL: u32 = 32768;
 
 pub fn is_transform(kind: u32) -> bool
     ensures { λ r. ⌜ r ≡ transform kind ⌝ }
@@ -103,7 +106,7 @@ fn essentials_known(table: &[u32], row: ItemRow) -> bool
     let n = property_count(table, row);
     let mut j: usize = 0;
     while j < n {
-        if 32768 <= views::association_of(table, row, j) {
+        if ESSENTIAL <= views::association_of(table, row, j) {
             if !is_known(kind_of(table, row, j)) {
                 return false;
             }
@@ -113,50 +116,11 @@ fn essentials_known(table: &[u32], row: ItemRow) -> bool
     true
 }
 
-// Whether an item has one `ispe`, and that before all of its transforms.
-fn has_ispe(table: &[u32], row: ItemRow) -> bool
-    ensures { λ r. ⌜ ((head : List ℕ) (pl : Places) (f : File) → TableOf (now (table .entry)) head pl f → row .0 < length (f .items) → r ≡ goodIspe (typesOf f (idOf f (row .0)))) ⌝ }
+// 15 before 16 for the properties of a picture that break one of the two.
+pub fn properties_fault(table: &[u32], row: ItemRow) -> u32
+    ensures { λ r. ⌜ ((head : List ℕ) (pl : Places) (f : File) → TableOf (now (table .entry)) head pl f → row .0 < length (f .items) → r ≡ pick (essentialKnown f (associationsOf f (idOf f (row .0)))) 16 15) ⌝ }
 {
-    let n = property_count(table, row);
-    let mut sizes: u32 = 0;
-    let mut turned = false;
-    let mut j: usize = 0;
-    while j < n {
-        let kind = kind_of(table, row, j);
-        if kind == ISPE {
-            if turned {
-                return false;
-            }
-            if sizes == 1 {
-                return false;
-            }
-            sizes = 1;
-        }
-        if is_transform(kind) {
-            turned = true;
-        }
-        j += 1;
-    }
-    sizes == 1
-}
-
-// 15 before 16 for the item in a row, 0 where neither is given.
-pub fn declared_fault(table: &[u32], row: ItemRow) -> u32
-    ensures { λ r. ⌜ ((head : List ℕ) (pl : Places) (f : File) → TableOf (now (table .entry)) head pl f → Judging (now (table .entry)) f → row .0 < length (f .items) → r ≡ faultOf (rule15-16 f (itemAt f (row .0)))) ⌝ }
-{
-    if !views::is_image(views::type_of(table, row)) {
-        return 0;
-    }
-    if views::record_word(table, row, 12) != 0 {
-        return 15;
-    }
-    if !essentials_known(table, row) {
-        return 15;
-    }
-    if !has_ispe(table, row) {
-        return 16;
-    }
-    0
+    if essentials_known(table, row) { 16 } else { 15 }
 }
 
 // The size that the content of an `ispe` declares.
@@ -172,35 +136,47 @@ fn ispe_size(b: &[u8]) -> Size
     }
 }
 
-// The size that the first `ispe` of an item declares, nothing where there is none.
-pub fn declared_size(head: &[u8], table: &[u32], row: ItemRow) -> Size
-    ensures { λ r. ⌜ ((pl : Places) (f : File) → TableOf (now (table .entry)) (now (head .entry)) pl f → row .0 < length (f .items) → r ≡ declaredIn (boxesOf f (idOf f (row .0)))) ⌝ }
-{
-    let n = property_count(table, row);
-    let mut j: usize = 0;
-    while j < n {
-        if kind_of(table, row, j) == ISPE {
-            return ispe_size(views::content_of(box_of(head, table, row, j)));
-        }
-        j += 1;
-    }
-    Size { wide: 0, high: 0 }
+// The size that an item declares and the one that its transforms make of it, or that its properties break 15 or 16.
+pub enum SizesRead {
+    Are { declared: Size, output: Size },
+    Wrong,
 }
 
-// The size after all transforms of an item, in association order, of a picture that has the size s before them.
-pub fn output_size(head: &[u8], table: &[u32], row: ItemRow, s: Size) -> Size
-    ensures { λ r. ⌜ ((pl : Places) (f : File) → TableOf (now (table .entry)) (now (head .entry)) pl f → row .0 < length (f .items) → r ≡ sizeThrough (turnsOf s (boxesOf f (idOf f (row .0)))) s) ⌝ }
+// The sizes of a picture, in one pass over its properties: each essential one known, one `ispe`, and that before all transforms.
+pub fn read_sizes(head: &[u8], table: &[u32], row: ItemRow) -> SizesRead
+    ensures { λ r. ⌜ ((pl : Places) (f : File) → TableOf (now (table .entry)) (now (head .entry)) pl f → row .0 < length (f .items) → r ≡ toldSizes f (idOf f (row .0))) ⌝ }
 {
     let n = property_count(table, row);
-    let mut size = s;
+    let mut sized = false;
+    let mut declared = Size { wide: 0, high: 0 };
+    let mut output = Size { wide: 0, high: 0 };
     let mut j: usize = 0;
     while j < n {
         let kind = kind_of(table, row, j);
+        if ESSENTIAL <= views::association_of(table, row, j) {
+            if !is_known(kind) {
+                return SizesRead::Wrong;
+            }
+        }
+        if kind == ISPE {
+            if sized {
+                return SizesRead::Wrong;
+            }
+            sized = true;
+            declared = ispe_size(views::content_of(box_of(head, table, row, j)));
+            output = declared;
+        }
         if is_transform(kind) {
+            if !sized {
+                return SizesRead::Wrong;
+            }
             let b = views::content_of(box_of(head, table, row, j));
-            size = pictures::size_after(pictures::turn_of(size, kind, b), size);
+            output = pictures::size_after(pictures::turn_of(output, kind, b), output);
         }
         j += 1;
     }
-    size
+    if sized {
+        return SizesRead::Are { declared, output };
+    }
+    SizesRead::Wrong
 }

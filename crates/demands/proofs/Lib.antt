@@ -1,6 +1,10 @@
 pub mod Once
 pub mod FaceOnce
 pub mod ToldLaws
+pub mod NumberLaws
+pub mod FormNumbers
+pub mod ReadNumbers
+pub mod Numbers
 pub mod AskedLaws
 pub mod Demand1
 pub mod Demand2

@@ -25,14 +25,22 @@ fn row_in_sweep(n: usize, k: usize, up: bool) -> ItemRow
     ItemRow(n - 1 - k)
 }
 
+// A word that the table is known to hold: the sweeps over all rows read it without a test.
+fn held(table: &[u32], at: usize) -> u32
+    requires { ⌜ at < length (now table) ⌝ }
+    ensures { λ r. ⌜ r ≡ getD (now (table .entry)) at 0 ⌝ }
+{
+    table[at]
+}
+
 // 1 plus the deepest input of a row by the depths so far; 0 where there is no input.
 fn depth_by(table: &[u32], rows: &[u32], depths: &[u32], row: ItemRow) -> u32
-    requires { ⌜ (row .0 ≤ 256) × Low (now depths) ⌝ }
+    requires { ⌜ (row .0 ≤ 256) × Low (now depths) × (11280 ≤ length (now table)) ⌝ }
     ensures { λ d. ⌜ d ≡ nextDepth (now (table .entry)) (now (rows .entry)) (at (now (depths .entry))) (row .0) ⌝ }
 {
     let r = row.0;
-    let k = table::word(table, 22 + 16 * r) as usize;
-    let first = table::word(table, 21 + 16 * r) as usize;
+    let k = held(table, 22 + 16 * r) as usize;
+    let first = held(table, 21 + 16 * r) as usize;
     let mut deepest: u32 = 0;
     let mut j: usize = 0;
     while j < k {
@@ -54,7 +62,7 @@ fn kept_depth(d: u32) -> u32
 
 // Sets the depth of a row to what follows from those of its inputs, where it is less; whether it was.
 fn deepen_row(table: &[u32], rows: &[u32], depths: &mut [u32], row: ItemRow) -> bool
-    requires { ⌜ (row .0 ≤ 256) × (row .0 < length (now depths)) × Low (now depths) ⌝ }
+    requires { ⌜ (row .0 ≤ 256) × (row .0 < length (now depths)) × Low (now depths) × (11280 ≤ length (now table)) ⌝ }
     ensures { λ changed. ⌜ Deeper (now (table .entry)) (now (rows .entry)) (row .0) (now (depths .entry)) (now (depths .exit)) changed ⌝ }
 {
     let r = row.0;
@@ -68,7 +76,7 @@ fn deepen_row(table: &[u32], rows: &[u32], depths: &mut [u32], row: ItemRow) -> 
 
 // One sweep over the n rows: the depths that follow from those so far. Whether any changed.
 fn deepen(table: &[u32], rows: &[u32], n: usize, up: bool, depths: &mut [u32]) -> bool
-    requires { ⌜ (n ≤ 256) × (n ≤ length (now depths)) × Low (now depths) ⌝ }
+    requires { ⌜ (n ≤ 256) × (n ≤ length (now depths)) × Low (now depths) × (11280 ≤ length (now table)) ⌝ }
     ensures { λ changed. ⌜ Deepened (now (table .entry)) (now (rows .entry)) n (now (depths .entry)) (now (depths .exit)) changed ⌝ }
 {
     let mut changed = false;
@@ -85,7 +93,7 @@ fn deepen(table: &[u32], rows: &[u32], n: usize, up: bool, depths: &mut [u32]) -
 
 // The depth of each of n rows, 17 where it is over 16. Sweeps end as soon as one changes nothing: inputs that stand before what is made of them take two.
 pub fn depths_of(table: &[u32], rows: &[u32], n: usize) -> [u32; 256]
-    requires { ⌜ n ≤ 256 ⌝ }
+    requires { ⌜ (n ≤ 256) × (11280 ≤ length (now table)) ⌝ }
     ensures { λ d. ⌜ ((s : Scene) → length s ≡ n → InputsAre (now (table .entry)) (now (rows .entry)) s → (r : ℕ) → r < n → getD d r 0 ≡ depth s r) ⌝ }
 {
     let mut depths = [0u32; 256];

@@ -1,7 +1,7 @@
--- What the code says of a recipe. Assumes nothing.
+-- What the code says of a derivation, and rule 17 by it. Assumes nothing.
 use Prim.Native.Nat.{ℕ, _*_}
 use native.Mathlib.Omega.{arith}
-use mathlib.Core.Path.{_≡_, refl, sym, ap, _∙_}
+use mathlib.Core.Path.{_≡_, refl, sym, ap, subst, _∙_}
 use mathlib.Core.List.{List, []}
 use mathlib.Core.Bool.{Bool, true, false}
 use lib.ListN.{length}
@@ -9,10 +9,11 @@ use lib.Dec.{eqb, ltb}
 use borrow.Author.Tests.{eq-eqb, ne-eqb, lt-ltb, le-ltb}
 use Rattle.fields.specs.Choice.{pick}
 use Rattle.fields.specs.Field.{beAt}
-use Rattle.fields.proofs.FieldLaws.{pick-yes, pick-no}
+use Rattle.fields.proofs.FieldLaws.{both, pick-yes, pick-no}
 use Rattle.fields.proofs.TestLaws.{both-and, and-none}
 use Rattle.boxes.specs.Answer.{Answer, ok, refuse, check, _>>=_, _>>_}
 use Rattle.boxes.specs.Types.{iden, grid, coded, derived}
+use Rattle.boxes.proofs.AnswerLaws.{then-ok, ok-then, ok-check, ok-inj}
 use Rattle.forms.specs.Form.{whole}
 use Rattle.contents.specs.Iinf.{Item}
 use Rattle.contents.specs.File.{File}
@@ -27,48 +28,53 @@ use Rattle.rules.specs.Joined.{locationOf, targetsOf}
 use Rattle.rules.specs.Derivations.{nothingIn, allImages, bodyOf, copyOf, tilesOf, layersOf, recipeFor, asRule17, recipeOf}
 use Rattle.rules.specs.Rules.{rule17}
 use Rattle.views.specs.Told.{faultOf}
-use Rattle.rules.proofs.DerivationLaws.{nothing-none, nothing-some}
-use Rattle.derived.specs.Told.{bodyOr, toldBy, toldRecipe}
-use Rattle.derived.specs.declared.RecipeRead.{RecipeRead}
-use Rattle.derived.specs.declared.RecipeRead.the-variants as read
+use Rattle.rules.proofs.DerivationLaws.{nothing-none, nothing-some, body-read, rule-17-ok}
+use Rattle.derived.specs.Told.{bodyOr, derivationFor, toldDerivation}
+use Rattle.derived.specs.declared.Derivation.{Derivation}
+use Rattle.derived.specs.declared.Derivation.the-variants as made
 
--- toldRecipe
-told-refused : (m : Answer Recipe) → Refused m → toldRecipe m ≡ read.Wrong
-unfolding toldRecipe
-told-refused m r = ap toldRecipe (r .2)
-
--- toldRecipe of what a check guards
-checked-yes : (n p : ℕ) (t : Bool) (m : Answer Recipe) → t ≡ true → toldRecipe (check n p t >> m) ≡ toldRecipe m
+-- check
+check-refused : (n p : ℕ) (t : Bool) (m : Answer Recipe) → t ≡ false → Refused (check n p t >> m)
 unfolding check _>>_
-checked-yes n p t m e = rw e
+check-refused n p t m e = (n, p, rw e)
 
-checked-no : (n p : ℕ) (t : Bool) (m : Answer Recipe) → t ≡ false → toldRecipe (check n p t >> m) ≡ read.Wrong
-unfolding check _>>_ toldRecipe
-checked-no n p t m e = rw e
+then-refused : (n p : ℕ) (t : Bool) (m : Answer Recipe) → Refused m → Refused (check n p t >> m)
+unfolding check _>>_
+then-refused n p true m r = r
+then-refused n p false m r = (n, p, refl)
 
-told-as-17 : (id : ℕ) (m : Answer Recipe) → toldRecipe (asRule17 id m) ≡ toldRecipe m
-unfolding asRule17 toldRecipe
-told-as-17 id (ok r) = refl
-told-as-17 id (refuse n p) = refl
+check-then : (n p : ℕ) (t : Bool) (m : Answer Recipe) → t ≡ true → (check n p t >> m) ≡ m
+check-then n p t m e = ok-then _ m tt (ok-check n p t e)
+
+-- toldDerivation of a refusal, and of what a check guards
+told-refused : (m : Answer Recipe) → Refused m → toldDerivation m ≡ made.Wrong
+unfolding toldDerivation
+told-refused m r = ap toldDerivation (r .2)
+
+checked-yes : (n p : ℕ) (t : Bool) (m : Answer Recipe) → t ≡ true → toldDerivation (check n p t >> m) ≡ toldDerivation m
+checked-yes n p t m e = ap toldDerivation (check-then n p t m e)
+
+checked-no : (n p : ℕ) (t : Bool) (m : Answer Recipe) → t ≡ false → toldDerivation (check n p t >> m) ≡ made.Wrong
+checked-no n p t m e = told-refused _ (check-refused n p t m e)
 
 -- a body that is read by w, which reads nothing from no bytes
 module _ {A : Type 0} (w : List ℕ → Answer A) (none : Refused (w [])) (g : A → Answer Recipe) where
-  read-refused : (m : Answer (List ℕ)) → Refused (w (bodyOr m)) → toldRecipe (m >>= (λ b. w b >>= g)) ≡ read.Wrong
-  unfolding bodyOr _>>=_ toldRecipe
-  read-refused (ok b) r = ap (λ (x : Answer A). toldRecipe (x >>= g)) (r .2)
+  read-refused : (m : Answer (List ℕ)) → Refused (w (bodyOr m)) → toldDerivation (m >>= (λ b. w b >>= g)) ≡ made.Wrong
+  unfolding bodyOr _>>=_ toldDerivation
+  read-refused (ok b) r = ap (λ (x : Answer A). toldDerivation (x >>= g)) (r .2)
   read-refused (refuse n p) r = refl
 
-  read-ok : (m : Answer (List ℕ)) (a : A) → w (bodyOr m) ≡ ok a → toldRecipe (m >>= (λ b. w b >>= g)) ≡ toldRecipe (g a)
+  read-ok : (m : Answer (List ℕ)) (a : A) → w (bodyOr m) ≡ ok a → toldDerivation (m >>= (λ b. w b >>= g)) ≡ toldDerivation (g a)
   unfolding bodyOr _>>=_
-  read-ok (ok b) a e = ap (λ (x : Answer A). toldRecipe (x >>= g)) e
+  read-ok (ok b) a e = ap (λ (x : Answer A). toldDerivation (x >>= g)) e
   read-ok (refuse n p) a e = absurd (refused-ok (w []) a none e)
 
   -- where no value will do
-  read-never : ((a : A) → toldRecipe (g a) ≡ read.Wrong) → (m : Answer (List ℕ)) → toldRecipe (m >>= (λ b. w b >>= g)) ≡ read.Wrong
-  unfolding _>>=_ toldRecipe
+  read-never : ((a : A) → toldDerivation (g a) ≡ made.Wrong) → (m : Answer (List ℕ)) → toldDerivation (m >>= (λ b. w b >>= g)) ≡ made.Wrong
+  unfolding _>>=_ toldDerivation
   read-never h (ok b) = by (w b)
     where
-      by : (x : Answer A) → toldRecipe (x >>= g) ≡ read.Wrong
+      by : (x : Answer A) → toldDerivation (x >>= g) ≡ made.Wrong
       by (ok a) = h a
       by (refuse n p) = refl
   read-never h (refuse n p) = refl
@@ -88,7 +94,7 @@ module _ (total : ℕ) (head : List ℕ) (f : File) (item : Item) (b : List ℕ)
   grid-same : toldGrid (whole grid-form 0 b) ≡ toldGrid (whole grid-form 0 (bodyOr (bodyOf total head f item)))
   grid-same = rw (← body)
 
-  pub tiles-wrong : tiles.Wrong ≡ toldGrid (whole grid-form 0 b) → read.Wrong ≡ toldRecipe (tilesOf total head f item)
+  pub tiles-wrong : tiles.Wrong ≡ toldGrid (whole grid-form 0 b) → made.Wrong ≡ toldDerivation (tilesOf total head f item)
   unfolding tilesOf
   tiles-wrong e = sym (read-refused (whole grid-form 0) no-grid tile (bodyOf total head f item) (told-no-grid _ (sym (e ∙ grid-same))))
 
@@ -96,31 +102,31 @@ module _ (total : ℕ) (head : List ℕ) (f : File) (item : Item) (b : List ℕ)
     abbrev read-tiles : Recipe
     read-tiles = Tiles (record { rows = r; columns = c; wide = w; high = h })
 
-    tiles-told : toldRecipe (tilesOf total head f item) ≡ toldRecipe (check 17 (item .id) (eqb (length (targetsOf f (item .id))) (r * c)) >> ok read-tiles)
+    tiles-told : toldDerivation (tilesOf total head f item) ≡ toldDerivation (check 17 (item .id) (eqb (length (targetsOf f (item .id))) (r * c)) >> ok read-tiles)
     unfolding tilesOf
     tiles-told = read-ok (whole grid-form 0) no-grid tile (bodyOf total head f item) _ (told-grid _ r c w h (sym (e ∙ grid-same)))
 
     module _ (n : ℕ) (counted : n ≡ length (targetsOf f (item .id))) where
-      pub tiles-is : n ≡ r * c → read.Tiles r c w h ≡ toldRecipe (tilesOf total head f item)
-      unfolding toldRecipe toldBy
+      pub tiles-is : n ≡ r * c → made.Tiles r c w h ≡ toldDerivation (tilesOf total head f item)
+      unfolding toldDerivation
       tiles-is q = sym (tiles-told ∙ checked-yes 17 (item .id) _ (ok read-tiles) (eq-eqb _ (r * c) (sym counted ∙ q)))
 
-      pub tiles-inputs : (n ≡ r * c → ⊥) → read.Wrong ≡ toldRecipe (tilesOf total head f item)
+      pub tiles-inputs : (n ≡ r * c → ⊥) → made.Wrong ≡ toldDerivation (tilesOf total head f item)
       tiles-inputs q = sym (tiles-told ∙ checked-no 17 (item .id) _ (ok read-tiles) (ne-eqb _ (r * c) (λ z. q (counted ∙ z))))
 
 -- n being how many inputs an item has
 module _ (total : ℕ) (head : List ℕ) (f : File) (item : Item) (n : ℕ) (counted : n ≡ length (targetsOf f (item .id))) where
   -- copyOf
   module _ (k : ℕ) (extents : k ≡ length (locationOf f (item .id) .extents)) where
-    pub copy-is : n ≡ 1 → k ≡ 0 → read.Copy ≡ toldRecipe (copyOf total head f item)
-    unfolding copyOf toldRecipe toldBy
+    pub copy-is : n ≡ 1 → k ≡ 0 → made.Copy ≡ toldDerivation (copyOf total head f item)
+    unfolding copyOf toldDerivation
     copy-is e z = sym (checked-yes 17 (item .id) _ (ok Copy) (both-and _ _ (eq-eqb _ 1 (sym counted ∙ e)) (nothing-none (locationOf f (item .id) .extents) (sym extents ∙ z))))
 
-    pub copy-extents : (k ≡ 0 → ⊥) → read.Wrong ≡ toldRecipe (copyOf total head f item)
+    pub copy-extents : (k ≡ 0 → ⊥) → made.Wrong ≡ toldDerivation (copyOf total head f item)
     unfolding copyOf
     copy-extents z = sym (checked-no 17 (item .id) _ (ok Copy) (and-none (eqb (length (targetsOf f (item .id))) 1) _ (nothing-some (locationOf f (item .id) .extents) (λ q. z (extents ∙ q)))))
 
-  pub copy-inputs : (n ≡ 1 → ⊥) → read.Wrong ≡ toldRecipe (copyOf total head f item)
+  pub copy-inputs : (n ≡ 1 → ⊥) → made.Wrong ≡ toldDerivation (copyOf total head f item)
   unfolding copyOf
   copy-inputs e = sym (checked-no 17 (item .id) _ (ok Copy) (rw (ne-eqb (length (targetsOf f (item .id))) 1 (λ q. e (counted ∙ q)))))
 
@@ -128,7 +134,7 @@ module _ (total : ℕ) (head : List ℕ) (f : File) (item : Item) (n : ℕ) (cou
   abbrev lay : Overlay → Answer Recipe
   lay o = check 17 (item .id) (ltb 0 (length (targetsOf f (item .id)))) >> ok (Layers o)
 
-  pub layers-none : n ≡ 0 → read.Wrong ≡ toldRecipe (layersOf total head f item)
+  pub layers-none : n ≡ 0 → made.Wrong ≡ toldDerivation (layersOf total head f item)
   unfolding layersOf
   layers-none e = sym (read-never (whole (iovl-form (length (targetsOf f (item .id)))) 0) (no-overlay _) lay (λ o. checked-no 17 (item .id) _ (ok (Layers o)) (le-ltb 0 (length (targetsOf f (item .id))) (omega arith))) (bodyOf total head f item))
 
@@ -136,12 +142,12 @@ module _ (total : ℕ) (head : List ℕ) (f : File) (item : Item) (n : ℕ) (cou
     overlay-same : toldOverlay b (whole (iovl-form n) 0 b) ≡ toldOverlay (bodyOr (bodyOf total head f item)) (whole (iovl-form (length (targetsOf f (item .id)))) 0 (bodyOr (bodyOf total head f item)))
     overlay-same = rw (← body, ← counted)
 
-    pub layers-wrong : layers.Wrong ≡ toldOverlay b (whole (iovl-form n) 0 b) → read.Wrong ≡ toldRecipe (layersOf total head f item)
+    pub layers-wrong : layers.Wrong ≡ toldOverlay b (whole (iovl-form n) 0 b) → made.Wrong ≡ toldDerivation (layersOf total head f item)
     unfolding layersOf
     layers-wrong e = sym (read-refused (whole (iovl-form (length (targetsOf f (item .id)))) 0) (no-overlay _) lay (bodyOf total head f item) (told-no-overlay _ _ (sym (e ∙ overlay-same))))
 
-    pub layers-is : (w h k : ℕ) → layers.Is w h k ≡ toldOverlay b (whole (iovl-form n) 0 b) → (n ≡ 0 → ⊥) → read.Layers w h ≡ toldRecipe (layersOf total head f item)
-    unfolding layersOf toldRecipe toldBy
+    pub layers-is : (w h k : ℕ) → layers.Is w h k ≡ toldOverlay b (whole (iovl-form n) 0 b) → (n ≡ 0 → ⊥) → made.Layers w h ≡ toldDerivation (layersOf total head f item)
+    unfolding layersOf toldDerivation
     layers-is w h k e some =
         let o = told-overlay _ _ w h k (sym (e ∙ overlay-same)) in
         sym
@@ -149,73 +155,101 @@ module _ (total : ℕ) (head : List ℕ) (f : File) (item : Item) (n : ℕ) (cou
         ∙ checked-yes 17 (item .id) _ (ok (Layers (o .overlay))) (lt-ltb 0 (length (targetsOf f (item .id))) (omega (arith, some)))
         ∙ rw (o .wide, o .high))
 
-  -- recipeOf of an item that is not derived
-  module _ (plain : derived (item .type) ≡ false) where
-    plain-told : toldRecipe (recipeOf total head f item) ≡ toldRecipe (check 17 (item .id) (nothingIn (targetsOf f (item .id))) >> ok (pick (coded (item .type)) Coded Opaque))
-    unfolding recipeFor
-    plain-told = told-as-17 (item .id) _ ∙ ap toldRecipe (pick-no _ _ plain)
+-- derivationFor, by the type of the item
+module _ (total : ℕ) (head : List ℕ) (f : File) (item : Item) where
+  pub type-copy : item .type ≡ iden → toldDerivation (copyOf total head f item) ≡ toldDerivation (derivationFor total head f item)
+  type-copy e = sym (ap toldDerivation (pick-yes _ _ (eq-eqb _ iden e)))
 
-    pub plain-inputs : (n ≡ 0 → ⊥) → read.Wrong ≡ toldRecipe (recipeOf total head f item)
-    plain-inputs z = sym (plain-told ∙ checked-no 17 (item .id) _ _ (nothing-some (targetsOf f (item .id)) (λ q. z (counted ∙ q))))
+  module _ (other : item .type ≡ iden → ⊥) where
+    pub type-tiles : item .type ≡ grid → toldDerivation (tilesOf total head f item) ≡ toldDerivation (derivationFor total head f item)
+    type-tiles e = sym (ap toldDerivation (pick-no _ _ (ne-eqb _ iden other) ∙ pick-yes _ _ (eq-eqb _ grid e)))
 
-    module _ (z : n ≡ 0) where
-      plain-ok : toldRecipe (recipeOf total head f item) ≡ toldRecipe (ok (pick (coded (item .type)) Coded Opaque))
-      plain-ok = plain-told ∙ checked-yes 17 (item .id) _ _ (nothing-none (targetsOf f (item .id)) (sym counted ∙ z))
+    pub type-layers : (item .type ≡ grid → ⊥) → toldDerivation (layersOf total head f item) ≡ toldDerivation (derivationFor total head f item)
+    type-layers e = sym (ap toldDerivation (pick-no _ _ (ne-eqb _ iden other) ∙ pick-no _ _ (ne-eqb _ grid e)))
 
-      pub plain-coded : coded (item .type) ≡ true → read.Coded ≡ toldRecipe (recipeOf total head f item)
-      unfolding toldRecipe toldBy
-      plain-coded e = sym (plain-ok ∙ ap toldBy (pick-yes _ _ e))
+-- derivationFor gives what derivations make, and nothing else
+abbrev Made : Recipe → Type 0
+Made Coded = ⊥
+Made Copy = Unit {0}
+Made Opaque = ⊥
+Made (Tiles g) = Unit {0}
+Made (Layers o) = Unit {0}
 
-      pub plain-opaque : coded (item .type) ≡ false → read.Opaque ≡ toldRecipe (recipeOf total head f item)
-      unfolding toldRecipe toldBy
-      plain-opaque e = sym (plain-ok ∙ ap toldBy (pick-no _ _ e))
+module _ (total : ℕ) (head : List ℕ) (f : File) (item : Item) (r : Recipe) where
+  copy-made : copyOf total head f item ≡ ok r → Made r
+  unfolding copyOf
+  copy-made e = subst Made (ok-inj Copy r (then-ok _ _ r e .2)) tt
 
--- recipeOf of a derived item
-module _ (total : ℕ) (head : List ℕ) (f : File) (item : Item) (d : derived (item .type) ≡ true) where
-  abbrev byType : Answer Recipe
-  byType = pick (eqb (item .type) iden) (copyOf total head f item) (pick (eqb (item .type) grid) (tilesOf total head f item) (layersOf total head f item))
+  tiles-made : tilesOf total head f item ≡ ok r → Made r
+  unfolding tilesOf
+  tiles-made e = subst Made (body-read _ _ 17 _ _ Tiles r e .5) tt
 
-  derived-told : toldRecipe (recipeOf total head f item) ≡ toldRecipe (check 17 (item .id) (allImages f (targetsOf f (item .id))) >> byType)
-  unfolding recipeFor
-  derived-told = told-as-17 (item .id) _ ∙ ap toldRecipe (pick-yes _ _ d)
+  layers-made : layersOf total head f item ≡ ok r → Made r
+  unfolding layersOf
+  layers-made e = subst Made (body-read _ _ 17 _ _ Layers r e .5) tt
 
-  pub derived-inputs : allImages f (targetsOf f (item .id)) ≡ false → read.Wrong ≡ toldRecipe (recipeOf total head f item)
-  derived-inputs e = sym (derived-told ∙ checked-no 17 (item .id) _ byType e)
+  derivation-made : derivationFor total head f item ≡ ok r → Made r
+  derivation-made = both (λ (m : Answer Recipe). m ≡ ok r → Made r) _ _ _ (λ q. copy-made) (λ q. both (λ (m : Answer Recipe). m ≡ ok r → Made r) _ _ _ (λ q. tiles-made) (λ q. layers-made))
 
-  module _ (images : allImages f (targetsOf f (item .id)) ≡ true) where
-    by-type : toldRecipe byType ≡ toldRecipe (recipeOf total head f item)
-    by-type = sym (derived-told ∙ checked-yes 17 (item .id) _ byType images)
+-- toldDerivation of what derivations make
+told-wrong : (m : Answer Recipe) → ((r : Recipe) → m ≡ ok r → Made r) → toldDerivation m ≡ made.Wrong → Refused m
+unfolding toldDerivation
+told-wrong (ok Coded) h e = absurd (h Coded refl)
+told-wrong (ok Copy) h e = let z : _≡_ {A = ℕ} 0 1 = cc in absurd (omega arith)
+told-wrong (ok Opaque) h e = absurd (h Opaque refl)
+told-wrong (ok (Tiles g)) h e = let z : _≡_ {A = ℕ} 0 1 = cc in absurd (omega arith)
+told-wrong (ok (Layers o)) h e = let z : _≡_ {A = ℕ} 0 1 = cc in absurd (omega arith)
+told-wrong (refuse n p) h e = (n, p, refl)
 
-    pub derived-copy : item .type ≡ iden → toldRecipe (copyOf total head f item) ≡ toldRecipe (recipeOf total head f item)
-    derived-copy e = sym (ap toldRecipe (pick-yes _ _ (eq-eqb _ iden e))) ∙ by-type
-
-    module _ (other : item .type ≡ iden → ⊥) where
-      pub derived-tiles : item .type ≡ grid → toldRecipe (tilesOf total head f item) ≡ toldRecipe (recipeOf total head f item)
-      derived-tiles e = sym (ap toldRecipe (pick-no _ _ (ne-eqb _ iden other) ∙ pick-yes _ _ (eq-eqb _ grid e))) ∙ by-type
-
-      pub derived-layers : (item .type ≡ grid → ⊥) → toldRecipe (layersOf total head f item) ≡ toldRecipe (recipeOf total head f item)
-      derived-layers e = sym (ap toldRecipe (pick-no _ _ (ne-eqb _ iden other) ∙ pick-no _ _ (ne-eqb _ grid e))) ∙ by-type
+told-right : (m : Answer Recipe) → (toldDerivation m ≡ made.Wrong → ⊥) → (r : Recipe) × (m ≡ ok r)
+unfolding toldDerivation
+told-right (ok r) n = (r, refl)
+told-right (refuse k p) n = absurd (n refl)
 
 -- rule17
-told-fault : (id : ℕ) (m : Answer Recipe) (k : Recipe → Answer (Unit {0})) → toldRecipe (asRule17 id m) ≡ read.Wrong → 17 ≡ faultOf (asRule17 id m >>= k)
-unfolding asRule17 toldRecipe toldBy faultOf _>>=_
-told-fault id (ok Coded) k e = let z : _≡_ {A = ℕ} 0 1 = cc in absurd (omega arith)
-told-fault id (ok Copy) k e = let z : _≡_ {A = ℕ} 0 1 = cc in absurd (omega arith)
-told-fault id (ok Opaque) k e = let z : _≡_ {A = ℕ} 0 1 = cc in absurd (omega arith)
-told-fault id (ok (Tiles g)) k e = let z : _≡_ {A = ℕ} 0 1 = cc in absurd (omega arith)
-told-fault id (ok (Layers o)) k e = let z : _≡_ {A = ℕ} 0 1 = cc in absurd (omega arith)
-told-fault id (refuse n p) k e = refl
+module _ (total : ℕ) (head : List ℕ) (f : File) (item : Item) where
+  for-refused : Refused (recipeFor total head f item) → 17 ≡ faultOf (rule17 total head f item)
+  unfolding rule17 asRule17 faultOf _>>=_
+  for-refused r = rw (r .2) refl
 
-told-sound : (m : Answer Recipe) → (toldRecipe m ≡ read.Wrong → ⊥) → 0 ≡ faultOf (m >>= (λ (r : Recipe). ok tt))
-unfolding toldRecipe faultOf _>>=_
-told-sound (ok r) n = refl
-told-sound (refuse k p) n = absurd (n refl)
+  for-right : (r : Recipe) → recipeFor total head f item ≡ ok r → 0 ≡ faultOf (rule17 total head f item)
+  unfolding rule17 asRule17 faultOf _>>=_
+  for-right r e = rw e refl
 
-module _ (total : ℕ) (head : List ℕ) (f : File) (item : Item) (x : RecipeRead) (told : x ≡ toldRecipe (recipeOf total head f item)) where
-  pub fault-17 : x ≡ read.Wrong → 17 ≡ faultOf (rule17 total head f item)
-  unfolding rule17
-  fault-17 e = told-fault (item .id) _ _ (sym told ∙ e)
+  -- of an item that is not derived
+  module _ (plain : derived (item .type) ≡ false) where
+    recipe-plain : recipeFor total head f item ≡ (check 17 (item .id) (nothingIn (targetsOf f (item .id))) >> ok (pick (coded (item .type)) Coded Opaque))
+    unfolding recipeFor
+    recipe-plain = pick-no _ _ plain
 
-  pub no-fault : (x ≡ read.Wrong → ⊥) → 0 ≡ faultOf (rule17 total head f item)
-  unfolding rule17
-  no-fault n = told-sound _ (λ e. n (told ∙ e))
+    -- the recipe is by its type
+    pub plain-recipe : (r : Recipe) → recipeOf total head f item ≡ ok r → pick (coded (item .type)) Coded Opaque ≡ r
+    plain-recipe r e = ok-inj _ r (then-ok _ _ r (sym recipe-plain ∙ rule-17-ok (item .id) (recipeFor total head f item) r e) .2)
+
+    -- n being how many inputs it has
+    module _ (n : ℕ) (counted : n ≡ length (targetsOf f (item .id))) where
+      pub plain-fed : n ≡ 0 → 0 ≡ faultOf (rule17 total head f item)
+      plain-fed z = for-right _ (recipe-plain ∙ check-then 17 (item .id) _ _ (nothing-none (targetsOf f (item .id)) (sym counted ∙ z)))
+
+      pub plain-inputs : (n ≡ 0 → ⊥) → 17 ≡ faultOf (rule17 total head f item)
+      plain-inputs z = for-refused (rw recipe-plain (check-refused 17 (item .id) _ _ (nothing-some (targetsOf f (item .id)) (λ q. z (counted ∙ q)))))
+
+  -- of a derived item
+  module _ (d : derived (item .type) ≡ true) where
+    recipe-derived : recipeFor total head f item ≡ (check 17 (item .id) (allImages f (targetsOf f (item .id))) >> derivationFor total head f item)
+    unfolding recipeFor
+    recipe-derived = pick-yes _ _ d
+
+    pub derived-inputs : allImages f (targetsOf f (item .id)) ≡ false → 17 ≡ faultOf (rule17 total head f item)
+    derived-inputs e = for-refused (rw recipe-derived (check-refused 17 (item .id) _ _ e))
+
+    -- the recipe is what the derivation makes
+    pub derived-recipe : (r : Recipe) → recipeOf total head f item ≡ ok r → derivationFor total head f item ≡ ok r
+    derived-recipe r e = then-ok _ _ r (sym recipe-derived ∙ rule-17-ok (item .id) (recipeFor total head f item) r e) .2
+
+    module _ (x : Derivation) (told : x ≡ toldDerivation (derivationFor total head f item)) where
+      pub derived-wrong : x ≡ made.Wrong → 17 ≡ faultOf (rule17 total head f item)
+      derived-wrong e = for-refused (rw recipe-derived (then-refused 17 (item .id) _ _ (told-wrong (derivationFor total head f item) (derivation-made total head f item) (sym told ∙ e))))
+
+      pub derived-fed : (x ≡ made.Wrong → ⊥) → allImages f (targetsOf f (item .id)) ≡ true → 0 ≡ faultOf (rule17 total head f item)
+      derived-fed n e = let r = told-right (derivationFor total head f item) (λ q. n (told ∙ q)) in for-right (r .0) (recipe-derived ∙ check-then 17 (item .id) _ _ e ∙ r .1)

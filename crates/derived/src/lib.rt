@@ -3,23 +3,24 @@ ghost use mathlib.Core.Path.{_≡_};
 ghost use mathlib.Core.List.{List};
 ghost use Prim.Native.Nat.{ℕ, _≤_, _<_};
 ghost use lib.ListN.{length, getD};
-ghost use mathlib.Core.Bool.{false};
+ghost use mathlib.Core.Bool.{true};
 ghost use Rattle.boxes.specs.Answer.{ok};
 ghost use Rattle.boxes.specs.Types.{derived};
 ghost use Rattle.contents.specs.File.{File};
 ghost use Rattle.rules.specs.Places.{Places};
 ghost use Rattle.rules.specs.Joined.{targetsOf, locationOf, rowOf, itemAt};
 ghost use Rattle.rules.specs.Bytes.{storeOf, bodyIn};
-ghost use Rattle.rules.specs.Derivations.{allImages, copyOf, tilesOf, layersOf, recipeOf};
+ghost use Rattle.rules.specs.Derivations.{allImages, copyOf, tilesOf, layersOf};
 ghost use Rattle.rules.specs.Rules.{rule13-14, rule17};
 ghost use Rattle.views.specs.View.{TableOf, idOf};
 ghost use Rattle.views.specs.Told.{faultOf};
-ghost use Rattle.derived.specs.Told.{Resolved, bodyOr, toldRecipe};
+ghost use Rattle.derived.specs.Told.{Resolved, bodyOr, derivationFor, toldDerivation};
 use pictures::GridRead;
 use pictures::OverlayRead;
 use records::FoundRow;
 use table::ItemId;
 use table::ItemRow;
+use table::Table;
 
 // The row of an ID; the number of items where it is not listed.
 fn row_or_end(table: &[u32], id: ItemId, hope: ItemRow) -> u32
@@ -35,11 +36,14 @@ fn row_or_end(table: &[u32], id: ItemId, hope: ItemRow) -> u32
     }
 }
 
-// For each target of the table, in its order, the row that it names, into a lent list.
+// For each target of the table, in its order, the row that it names, into a lent list. No table of a file is shorter: the one test spares the loop its own.
 pub fn resolve(table: &[u32], rows: &mut [u32])
     requires { ⌜ 2048 ≤ length (now rows) ⌝ }
     ensures { λ _. ⌜ ((head : List ℕ) (pl : Places) (f : File) → TableOf (now (table .entry)) head pl f → Resolved (now (table .entry)) (now (rows .exit)) f) ⌝ }
 {
+    if table.len() < Table::WORDS {
+        return;
+    }
     let n = table::word(table, 3) as usize;
     if 2048 < n {
         return;
@@ -101,11 +105,9 @@ pub fn body_of<'a>(head: &'a [u8], table: &[u32], row: ItemRow) -> &'a [u8]
     &head[..0]
 }
 
-// How the reconstructed image of an item comes about.
-pub enum RecipeRead {
-    Coded,
+// How the reconstructed image of a derived item comes about, whatever its inputs are.
+pub enum Derivation {
     Copy,
-    Opaque,
     Tiles {
         rows: u32,
         columns: u32,
@@ -120,24 +122,24 @@ pub enum RecipeRead {
 }
 
 // `iden`: one input, no extents.
-fn copy_of(table: &[u32], row: ItemRow) -> RecipeRead
-    ensures { λ r. ⌜ ((total : ℕ) (head : List ℕ) (pl : Places) (f : File) → TableOf (now (table .entry)) head pl f → row .0 < length (f .items) → r ≡ toldRecipe (copyOf total head f (itemAt f (row .0)))) ⌝ }
+fn copy_of(table: &[u32], row: ItemRow) -> Derivation
+    ensures { λ r. ⌜ ((total : ℕ) (head : List ℕ) (pl : Places) (f : File) → TableOf (now (table .entry)) head pl f → row .0 < length (f .items) → r ≡ toldDerivation (copyOf total head f (itemAt f (row .0)))) ⌝ }
 {
     if input_count(table, row) == 1 {
         if views::record_word(table, row, 8) == 0 {
-            return RecipeRead::Copy;
+            return Derivation::Copy;
         }
     }
-    RecipeRead::Wrong
+    Derivation::Wrong
 }
 
 // `grid`: as many inputs as rows × columns.
-fn tiles_of(head: &[u8], table: &[u32], row: ItemRow) -> RecipeRead
-    ensures { λ r. ⌜ ((total : ℕ) (pl : Places) (f : File) → TableOf (now (table .entry)) (now (head .entry)) pl f → row .0 < length (f .items) → rule13-14 total (now (head .entry)) f (itemAt f (row .0)) ≡ ok tt → r ≡ toldRecipe (tilesOf total (now (head .entry)) f (itemAt f (row .0)))) ⌝ }
+fn tiles_of(head: &[u8], table: &[u32], row: ItemRow) -> Derivation
+    ensures { λ r. ⌜ ((total : ℕ) (pl : Places) (f : File) → TableOf (now (table .entry)) (now (head .entry)) pl f → row .0 < length (f .items) → rule13-14 total (now (head .entry)) f (itemAt f (row .0)) ≡ ok tt → r ≡ toldDerivation (tilesOf total (now (head .entry)) f (itemAt f (row .0)))) ⌝ }
 {
     let g = pictures::read_grid(body_of(head, table, row));
     match g {
-        GridRead::Wrong => RecipeRead::Wrong,
+        GridRead::Wrong => Derivation::Wrong,
         GridRead::Is {
             rows,
             columns,
@@ -145,37 +147,37 @@ fn tiles_of(head: &[u8], table: &[u32], row: ItemRow) -> RecipeRead
             high,
         } => {
             if input_count(table, row) as u64 == (rows as u64) * (columns as u64) {
-                return RecipeRead::Tiles {
+                return Derivation::Tiles {
                     rows,
                     columns,
                     wide,
                     high,
                 };
             }
-            RecipeRead::Wrong
+            Derivation::Wrong
         }
     }
 }
 
 // `iovl`: an offset per input, at least one input.
-fn layers_of(head: &[u8], table: &[u32], row: ItemRow) -> RecipeRead
-    ensures { λ r. ⌜ ((total : ℕ) (pl : Places) (f : File) → TableOf (now (table .entry)) (now (head .entry)) pl f → row .0 < length (f .items) → rule13-14 total (now (head .entry)) f (itemAt f (row .0)) ≡ ok tt → r ≡ toldRecipe (layersOf total (now (head .entry)) f (itemAt f (row .0)))) ⌝ }
+fn layers_of(head: &[u8], table: &[u32], row: ItemRow) -> Derivation
+    ensures { λ r. ⌜ ((total : ℕ) (pl : Places) (f : File) → TableOf (now (table .entry)) (now (head .entry)) pl f → row .0 < length (f .items) → rule13-14 total (now (head .entry)) f (itemAt f (row .0)) ≡ ok tt → r ≡ toldDerivation (layersOf total (now (head .entry)) f (itemAt f (row .0)))) ⌝ }
 {
     let n = input_count(table, row);
     if n == 0 {
-        return RecipeRead::Wrong;
+        return Derivation::Wrong;
     }
     if 2048 < n {
-        return RecipeRead::Wrong;
+        return Derivation::Wrong;
     }
     let o = pictures::read_overlay(body_of(head, table, row), n);
     match o {
-        OverlayRead::Wrong => RecipeRead::Wrong,
+        OverlayRead::Wrong => Derivation::Wrong,
         OverlayRead::Is {
             wide,
             high,
             bytes: _,
-        } => RecipeRead::Layers { wide, high },
+        } => Derivation::Layers { wide, high },
     }
 }
 
@@ -183,29 +185,14 @@ const IDEN: u32 = 0x6964656e;
 
 const GRID: u32 = 0x67726964;
 
-// An item that is not derived: it has no inputs.
-fn underived(table: &[u32], row: ItemRow) -> RecipeRead
-    ensures { λ r. ⌜ ((total : ℕ) (head : List ℕ) (pl : Places) (f : File) → TableOf (now (table .entry)) head pl f → row .0 < length (f .items) → derived (itemAt f (row .0) .type) ≡ false → r ≡ toldRecipe (recipeOf total head f (itemAt f (row .0)))) ⌝ }
+// What the body of a derived item makes. No table of a file is shorter: the one test spares the readers of its words their own.
+pub fn derivation_of(head: &[u8], table: &[u32], row: ItemRow) -> Derivation
+    ensures { λ r. ⌜ ((total : ℕ) (pl : Places) (f : File) → TableOf (now (table .entry)) (now (head .entry)) pl f → row .0 < length (f .items) → rule13-14 total (now (head .entry)) f (itemAt f (row .0)) ≡ ok tt → derived (itemAt f (row .0) .type) ≡ true → r ≡ toldDerivation (derivationFor total (now (head .entry)) f (itemAt f (row .0)))) ⌝ }
 {
-    if input_count(table, row) != 0 {
-        return RecipeRead::Wrong;
+    if table.len() < Table::WORDS {
+        return Derivation::Wrong;
     }
-    if views::is_coded(views::type_of(table, row)) {
-        return RecipeRead::Coded;
-    }
-    RecipeRead::Opaque
-}
-
-pub fn recipe_of(head: &[u8], table: &[u32], rows: &[u32], row: ItemRow) -> RecipeRead
-    ensures { λ r. ⌜ ((total : ℕ) (pl : Places) (f : File) → TableOf (now (table .entry)) (now (head .entry)) pl f → Resolved (now (table .entry)) (now (rows .entry)) f → row .0 < length (f .items) → rule13-14 total (now (head .entry)) f (itemAt f (row .0)) ≡ ok tt → r ≡ toldRecipe (recipeOf total (now (head .entry)) f (itemAt f (row .0)))) ⌝ }
-{
     let kind = views::type_of(table, row);
-    if !views::is_derived(kind) {
-        return underived(table, row);
-    }
-    if !all_images(table, rows, row) {
-        return RecipeRead::Wrong;
-    }
     if kind == IDEN {
         return copy_of(table, row);
     }
@@ -215,13 +202,24 @@ pub fn recipe_of(head: &[u8], table: &[u32], rows: &[u32], row: ItemRow) -> Reci
     layers_of(head, table, row)
 }
 
-// 17 for the item in a row, 0 where it is not given.
+// 17 for the item in a row, 0 where it is not given: only derived items have inputs, and these are pictures.
 pub fn derived_fault(head: &[u8], table: &[u32], rows: &[u32], row: ItemRow) -> u32
     ensures { λ r. ⌜ ((total : ℕ) (pl : Places) (f : File) → TableOf (now (table .entry)) (now (head .entry)) pl f → Resolved (now (table .entry)) (now (rows .entry)) f → row .0 < length (f .items) → rule13-14 total (now (head .entry)) f (itemAt f (row .0)) ≡ ok tt → r ≡ faultOf (rule17 total (now (head .entry)) f (itemAt f (row .0)))) ⌝ }
 {
-    let r = recipe_of(head, table, rows, row);
-    match r {
-        RecipeRead::Wrong => 17,
-        _ => 0,
+    if !views::is_derived(views::type_of(table, row)) {
+        if input_count(table, row) == 0 {
+            return 0;
+        }
+        return 17;
+    }
+    let d = derivation_of(head, table, row);
+    match d {
+        Derivation::Wrong => 17,
+        _ => {
+            if all_images(table, rows, row) {
+                return 0;
+            }
+            17
+        }
     }
 }

@@ -1,12 +1,12 @@
 -- Filling the rows of a table with the items of an `iinf`: what the loop keeps, and each way out of it. Assumes nothing.
-use Prim.Native.Nat.{ℕ, suc, _+_, _*_, _-_, _≤_, _<_}
+use Prim.Native.Nat.{ℕ, suc, _+_, _*_, _-_, _%_, _≤_, _<_}
 use native.Mathlib.Nat.{eq-or-lt-of-le}
 use native.Mathlib.Numerals.{add-one}
 use native.Mathlib.Omega.{arith}
 use mathlib.Core.Path.{_≡_, refl, sym, ap, _∙_, subst}
 use mathlib.Core.List.{List, [], _∷_, _++_}
 use mathlib.Core.Logic.{⊎-elim}
-use lib.ListN.{length, drop, length-append}
+use lib.ListN.{length, getD, drop, set, length-append, length-set}
 use Rattle.boxes.specs.Answer.{Answer, ok, refuse}
 use Rattle.boxes.specs.Exactly.{exactly}
 use Rattle.boxes.specs.declared.Refusal.{Refusal}
@@ -24,7 +24,7 @@ use Rattle.items.specs.declared.NextItem.the-variants as next
 use Rattle.items.specs.declared.ItemsRead.{ItemsRead}
 use Rattle.items.specs.declared.ItemsRead.the-variants as read
 use Rattle.items.specs.Told.{toldItems, itemOf, NextIs, Between, rowPut, Stored}
-use Rattle.items.proofs.TableLaws.{put-kept, put-below, put-id, put-ids}
+use Rattle.items.proofs.TableLaws.{put-kept, put-below, put-id, put-ids, seen-same, seen-still}
 use Rattle.items.proofs.StepLaws.{exactlyFrom, exactly-end, exactly-left}
 
 -- Stored
@@ -46,20 +46,22 @@ module _ (s : List ℕ) (from n place base : ℕ) (t₀ : List ℕ) where
   answer = exactly infe-step place n (base + from) [] (drop from s)
 
   -- what the loop keeps: i items, read from the boxes before `at`, are in the first i rows
-  pub record So (t : List ℕ) (at : ℕ) (b : Bounds) (i : ℕ) : Type 0 where
+  pub record So (t : List ℕ) (at : ℕ) (b : Bounds) (m : List ℕ) (i : ℕ) : Type 0 where
     pub items : List Item
     pub count : length items ≡ i
     pub few : i ≤ n
     pub here : at ≤ length s
     pub same : answer ≡ exactlyFrom infe-step place base s (n - i) at items
     pub within : (k : ℕ) → k < i → Between b (idAt t k)
+    pub marks : length m ≡ 256
+    pub seen : (k : ℕ) → k < i → 0 < getD m (idAt t k % 256) 0
     pub ids : idsIn t i ≡ idsOf items
     pub kept : Kept t₀ t
     pub told : (pl : Places) (x : List ℕ) → t₀ ≡ rawOf [] pl unread ++ x → t ≡ rawOf [] pl (withItems items) ++ x
 
-  pub begin : (b : Bounds) → from ≤ length s → So t₀ from b 0
+  pub begin : (b : Bounds) (m : List ℕ) → length m ≡ 256 → from ≤ length s → So t₀ from b m 0
   unfolding idsIn
-  begin b h =
+  begin b m z h =
       let e : n ≡ n - 0 = omega arith in
       record {
         items = [];
@@ -68,6 +70,8 @@ module _ (s : List ℕ) (from n place base : ℕ) (t₀ : List ℕ) where
         here = h;
         same = ap (λ (k : ℕ). exactlyFrom infe-step place base s k from []) e;
         within = λ k l. absurd (omega arith);
+        marks = z;
+        seen = λ k l. absurd (omega arith);
         ids = refl;
         kept = record { same-length = refl; past = refl };
         told = λ pl x e. e;
@@ -77,10 +81,10 @@ module _ (s : List ℕ) (from n place base : ℕ) (t₀ : List ℕ) where
   abbrev pub Tells : ItemsRead → List ℕ → Type 0
   Tells r t = (r ≡ toldItems answer) × Stored answer t₀ t
 
-  module _ (t : List ℕ) (at : ℕ) (b : Bounds) (i : ℕ) (so : So t at b i) where
-    tells-refused : (m q : ℕ) → answer ≡ refuse m q → Tells (read.Refused (record { number = m; place = q })) t
+  module _ (t : List ℕ) (at : ℕ) (b : Bounds) (m : List ℕ) (i : ℕ) (so : So t at b m i) where
+    tells-refused : (n q : ℕ) → answer ≡ refuse n q → Tells (read.Refused (record { number = n; place = q })) t
     unfolding toldItems
-    tells-refused m q e = (sym (ap toldItems e), stored-refused answer t₀ t (so .kept) m q e)
+    tells-refused n q e = (sym (ap toldItems e), stored-refused answer t₀ t (so .kept) n q e)
 
     -- after the last box
     module _ (h : n ≤ i) where
@@ -111,7 +115,7 @@ module _ (s : List ℕ) (from n place base : ℕ) (t₀ : List ℕ) where
         is-next : NextIs s at place base (so .items) (next.Is j end)
         is-next = subst (NextIs s at place base (so .items)) e (f (so .items) (so .ids))
 
-        pub stored : (u : List ℕ) (c : Bounds) → u ≡ rowPut t i (itemOf j) → (c .least ≤ b .least) × (c .least ≤ j .id .0) × (b .above ≤ c .above) × (j .id .0 < c .above) → So u end c (i + 1)
+        pub stored : (u : List ℕ) (c : Bounds) → u ≡ rowPut t i (itemOf j) → (c .least ≤ b .least) × (c .least ≤ j .id .0) × (b .above ≤ c .above) × (j .id .0 < c .above) → So u end c (set m (j .id .0 % 256) 1) (i + 1)
         stored u c eu w =
             let g = is-next in
             let fits : 16 + 16 * i < length t = omega (arith, so .kept .same-length) in
@@ -125,6 +129,12 @@ module _ (s : List ℕ) (from n place base : ℕ) (t₀ : List ℕ) where
                   ⊎-elim
                   (λ q. let z : idAt u k ≡ j .id .0 = ap (λ (v : ℕ). idAt u v) q ∙ ap (λ (v : List ℕ). idAt v i) eu ∙ put-id t i (itemOf j) fits in (omega arith, omega arith))
                   (λ q. let z : idAt u k ≡ idAt t k = ap (λ (v : List ℕ). idAt v k) eu ∙ put-below t i (itemOf j) k q in let m = so .within k q in (omega arith, omega arith))
+                  (eq-or-lt-of-le {n = k} {m = i} (omega arith));
+              marks = simp length-set (so .marks);
+              seen = λ k l.
+                  ⊎-elim
+                  (λ q. let z : idAt u k ≡ j .id .0 = ap (λ (v : ℕ). idAt u v) q ∙ ap (λ (v : List ℕ). idAt v i) eu ∙ put-id t i (itemOf j) fits in rw z (seen-same m (j .id .0) (so .marks)))
+                  (λ q. let z : idAt u k ≡ idAt t k = ap (λ (v : List ℕ). idAt v k) eu ∙ put-below t i (itemOf j) k q in rw z (seen-still m (j .id .0) (idAt t k) (so .marks) (so .seen k q)))
                   (eq-or-lt-of-le {n = k} {m = i} (omega arith));
               ids = ap (λ (v : List ℕ). idsIn v (i + 1)) eu ∙ ap (idsIn (rowPut t i (itemOf j))) (add-one i) ∙ put-ids t i (itemOf j) (so .items) fits (so .ids);
               kept = subst (Kept t₀) (sym eu) (put-kept t i (itemOf j) t₀ (omega arith) (so .kept));

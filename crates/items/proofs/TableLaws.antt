@@ -1,11 +1,13 @@
 -- The IDs in the rows of a table: whether one is taken, and what one more record changes. Assumes nothing.
-use Prim.Native.Nat.{ℕ, suc, _+_, _*_, _≤_, _<_}
+use Prim.Native.Nat.{ℕ, suc, _+_, _*_, _%_, _≤_, _<_}
 use native.Mathlib.Omega.{arith}
-use mathlib.Core.Path.{_≡_, sym, _∙_}
+use mathlib.Core.Path.{_≡_, refl, sym, ap, _∙_, subst}
 use mathlib.Core.List.{List, [], _∷_, _++_, map-append}
-use mathlib.Core.Bool.{false}
+use mathlib.Core.Bool.{Bool, true, false}
 use lib.ListN.{length, getD, drop, set, length-set}
 use lib.Seq.{getD-set-same, getD-set-other, drop-set-lt}
+use lib.Dec.{eqb}
+use borrow.Author.Tests.{eqb-true, eqb-false}
 use Rattle.fields.specs.Lists.{member}
 use Rattle.contents.specs.Iinf.{Item, idsOf}
 use Rattle.records.specs.Rows.{idAt, idsIn}
@@ -14,14 +16,28 @@ use Rattle.records.proofs.IdLaws.{ids-same, row-missing}
 use Rattle.items.specs.declared.Bounds.{Bounds}
 use Rattle.items.specs.Told.{Filling, rowPut}
 
--- an ID above or below all of them is new
+-- an ID above or below all of them is new, and one whose remainder none has left
 module _ (t : List ℕ) (n id : ℕ) where
-  module _ (b : Bounds) (f : Filling t n b) where
+  module _ (b : Bounds) (m : List ℕ) (f : Filling t n b m) where
     pub taken-high : b .above ≤ id → member id (idsIn t n) ≡ false
     taken-high h = row-missing t n id (λ k l q. omega (arith, f .within k l .1))
 
     pub taken-low : id < b .least → member id (idsIn t n) ≡ false
     taken-low h = row-missing t n id (λ k l q. omega (arith, f .within k l .0))
+
+    pub taken-unseen : getD m (id % 256) 0 ≡ 0 → member id (idsIn t n) ≡ false
+    taken-unseen h = row-missing t n id (λ k l q. omega (arith, f .seen k l, ap (λ (x : ℕ). getD m (x % 256) 0) q, h))
+
+-- the remainders once one more is marked
+pub seen-same : (m : List ℕ) (x : ℕ) → length m ≡ 256 → 0 < getD (set m (x % 256) 1) (x % 256) 0
+seen-same m x e = omega (arith, getD-set-same m (x % 256) 1 0 (omega arith))
+
+pub seen-still : (m : List ℕ) (x y : ℕ) → length m ≡ 256 → 0 < getD m (y % 256) 0 → 0 < getD (set m (x % 256) 1) (y % 256) 0
+seen-still m x y e h = by (eqb (y % 256) (x % 256)) refl
+  where
+    by : (t : Bool) → eqb (y % 256) (x % 256) ≡ t → 0 < getD (set m (x % 256) 1) (y % 256) 0
+    by true q = subst (λ (k : ℕ). 0 < getD (set m (x % 256) 1) k 0) (sym (eqb-true _ _ q)) (seen-same m x e)
+    by false q = omega (arith, h, getD-set-other m (x % 256) (y % 256) 1 0 (eqb-false _ _ q))
 
 -- rowPut
 module _ (t : List ℕ) (r : ℕ) (i : Item) where

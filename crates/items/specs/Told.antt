@@ -6,13 +6,13 @@
 --   InfeIs ids s p r  r is what the content s of an `infe` at p says, where ids are the IDs of the items before it
 --   CountIs s p r     r is what the front of the content s of an `iinf` at p says
 --   NextIs ..         r is what the next box of an `iinf` says
---   Filling t n b     a table with records in n rows, whose IDs all lie in the bounds b
+--   Filling t n b m   a table with records in n rows, whose IDs all lie in the bounds b and leave remainders of 256 that m marks
 --   rowPut t r i      a table after an item's words went into row r
 --   Stored a t u      the table t, all 0, became that of the items of the answer a
-use Prim.Native.Nat.{ℕ, suc, _+_, _*_, _≤_, _<_}
+use Prim.Native.Nat.{ℕ, suc, _+_, _*_, _%_, _≤_, _<_}
 use mathlib.Core.Path.{_≡_}
 use mathlib.Core.List.{List, [], _∷_, _++_}
-use lib.ListN.{length, drop, set}
+use lib.ListN.{length, getD, drop, set}
 use Rattle.boxes.specs.Answer.{Answer, ok, refuse}
 use Rattle.boxes.specs.Exactly.{exactly}
 use Rattle.forms.specs.Form.{got, front}
@@ -67,10 +67,11 @@ NextIs s at p base before (next.Refused r) = (n : ℕ) → exactly infe-step p (
 abbrev pub Between : Bounds → ℕ → Type 0
 Between b id = (b .least ≤ id) × (id < b .above)
 
-pub record Filling (t : List ℕ) (n : ℕ) (b : Bounds) : Type 0 where
+pub record Filling (t : List ℕ) (n : ℕ) (b : Bounds) (m : List ℕ) : Type 0 where
   pub room : 11280 ≤ length t
   pub few : n ≤ 256
   pub within : (k : ℕ) → k < n → Between b (idAt t k)
+  pub seen : (k : ℕ) → k < n → 0 < getD m (idAt t k % 256) 0
 
 unfoldable pub rowPut : List ℕ → ℕ → Item → List ℕ
 rowPut t r i = set (set (set (set t (16 + 16 * r) (i .id)) (16 + 16 * r + 1) (i .type)) (16 + 16 * r + 2) (i .hidden)) (16 + 16 * r + 12) (i .protection)

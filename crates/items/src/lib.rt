@@ -40,9 +40,15 @@ pub struct Bounds {
     pub above: u64,
 }
 
-// Whether an ID is that of one of the first n rows, all of whose IDs lie in bounds: most writers' IDs rise, some writers' fall, and then no row is looked at.
-fn is_taken(table: &[u32], n: usize, id: ItemId, bounds: Bounds) -> bool
-    requires { ⌜ Filling (now table) n bounds ⌝ }
+// The bounds of no ID: each lies out of them.
+const NO_BOUNDS: Bounds = Bounds {
+    least: 0x100000000,
+    above: 0,
+};
+
+// Whether an ID is that of one of the first n rows, all of whose IDs lie in bounds and leave remainders that were seen: most writers' IDs rise, some writers' fall, and of those in no order few leave one remainder twice. Then no row is looked at.
+fn is_taken(table: &[u32], n: usize, id: ItemId, bounds: Bounds, seen: &[u32]) -> bool
+    requires { ⌜ Filling (now table) n bounds (now seen) ⌝ }
     ensures { λ r. ⌜ r ≡ member (id .0) (idsIn (now (table .entry)) n) ⌝ }
 {
     let x = id.0 as u64;
@@ -50,6 +56,9 @@ fn is_taken(table: &[u32], n: usize, id: ItemId, bounds: Bounds) -> bool
         return false;
     }
     if x < bounds.least {
+        return false;
+    }
+    if table::word(seen, (id.0 % 256) as usize) == 0 {
         return false;
     }
     let f = records::row_of(table, n, id, ItemRow(0));
@@ -68,15 +77,16 @@ fn read_info(
     table: &[u32],
     n: usize,
     bounds: Bounds,
+    seen: &[u32],
 ) -> InfeRead
-    requires { ⌜ (4 ≤ length (now s)) × ((w ≡ 2) ⊎ (w ≡ 4)) × Filling (now table) n bounds ⌝ }
+    requires { ⌜ (4 ≤ length (now s)) × ((w ≡ 2) ⊎ (w ≡ 4)) × Filling (now table) n bounds (now seen) ⌝ }
     ensures { λ r. ⌜ ((v : ℕ) → full (between 2 3) .read place (now (s .entry)) ≡ got (record { version = v; flags = flags }) (drop 4 (now (s .entry))) → pick (eqb v 2) 2 4 ≡ w → InfeIs (idsIn (now (table .entry)) n) (now (s .entry)) place r) ⌝ }
 {
     if s.len() < 4 + w {
         return InfeRead::Refused(Refusal { number: 8, place });
     }
     let id = ItemId(fields::be_id(s, 4, w));
-    if is_taken(table, n, id, bounds) {
+    if is_taken(table, n, id, bounds, seen) {
         return InfeRead::Refused(Refusal { number: 10, place });
     }
     if s.len() < 10 + w {
@@ -91,8 +101,15 @@ fn read_info(
 }
 
 // The content of an `infe` at a place.
-fn read_infe(s: &[u8], place: u64, table: &[u32], n: usize, bounds: Bounds) -> InfeRead
-    requires { ⌜ Filling (now table) n bounds ⌝ }
+fn read_infe(
+    s: &[u8],
+    place: u64,
+    table: &[u32],
+    n: usize,
+    bounds: Bounds,
+    seen: &[u32],
+) -> InfeRead
+    requires { ⌜ Filling (now table) n bounds (now seen) ⌝ }
     ensures { λ r. ⌜ InfeIs (idsIn (now (table .entry)) n) (now (s .entry)) place r ⌝ }
 {
     let h = contents::read_full(s, 2, 3, place);
@@ -100,9 +117,9 @@ fn read_infe(s: &[u8], place: u64, table: &[u32], n: usize, bounds: Bounds) -> I
         FullRead::Refused(r) => InfeRead::Refused(r),
         FullRead::Is { version, flags } => {
             if version == 2 {
-                return read_info(s, 2, flags, place, table, n, bounds);
+                return read_info(s, 2, flags, place, table, n, bounds, seen);
             }
-            read_info(s, 4, flags, place, table, n, bounds)
+            read_info(s, 4, flags, place, table, n, bounds, seen)
         }
     }
 }
@@ -125,8 +142,9 @@ fn next_item(
     table: &[u32],
     n: usize,
     bounds: Bounds,
+    seen: &[u32],
 ) -> NextItem
-    requires { ⌜ (base + length (now s) < 18446744073709551616) × (at ≤ length (now s)) × Filling (now table) n bounds ⌝ }
+    requires { ⌜ (base + length (now s) < 18446744073709551616) × (at ≤ length (now s)) × Filling (now table) n bounds (now seen) ⌝ }
     ensures { λ r. ⌜ ((before : List Item) → idsIn (now (table .entry)) n ≡ idsOf before → NextIs (now (s .entry)) at place base before r) ⌝ }
 {
     let c = boxes::child_at(s, at);
@@ -139,7 +157,7 @@ fn next_item(
                     place: here,
                 });
             }
-            let r = read_infe(&s[body..end], here, table, n, bounds);
+            let r = read_infe(&s[body..end], here, table, n, bounds, seen);
             match r {
                 InfeRead::Is(info) => NextItem::Is { info, end },
                 InfeRead::Refused(f) => NextItem::Refused(f),
@@ -249,14 +267,12 @@ fn fill_items(
     ensures { λ _. ⌜ Stored (exactly infe-step place n (base + from) [] (drop from (now (s .entry)))) (now (table .entry)) (now (table .exit)) ⌝ }
 {
     let mut at = from;
-    // The bounds of no ID: each lies out of them.
-    let mut bounds = Bounds {
-        least: 0x100000000,
-        above: 0,
-    };
+    let mut bounds = NO_BOUNDS;
+    // For each of 256 remainders 1 where an ID left it.
+    let mut seen = [0u32; 256];
     let mut i: usize = 0;
     while i < n {
-        let t = next_item(s, at, place, base, &*table, i, bounds);
+        let t = next_item(s, at, place, base, &*table, i, bounds, &seen);
         match t {
             NextItem::Refused(r) => {
                 return ItemsRead::Refused(r);
@@ -265,6 +281,7 @@ fn fill_items(
                 let id = info.id;
                 put_item(table, ItemRow(i), info);
                 bounds = widened(bounds, id);
+                seen[(id.0 % 256) as usize] = 1;
                 at = end;
                 i += 1;
             }

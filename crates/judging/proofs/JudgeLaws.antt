@@ -4,32 +4,35 @@ use native.Mathlib.Omega.{arith}
 use mathlib.Core.Path.{_≡_, refl, sym, ap, _∙_, subst}
 use mathlib.Core.List.{List, _++_}
 use mathlib.Core.Bool.{true, false}
-use lib.ListN.{length, getD, drop}
-use lib.Seq.{drop-at}
+use lib.ListN.{length, getD}
 use Rattle.boxes.specs.Answer.{Answer, ok, refuse, check, _>>_}
 use Rattle.boxes.specs.declared.Refusal.{Refusal}
-use Rattle.boxes.proofs.AnswerLaws.{then-ok}
+use Rattle.contents.specs.Iinf.{Item}
 use Rattle.contents.specs.Iref.{targetsIn}
-use Rattle.contents.specs.File.{File, readFile}
+use Rattle.contents.specs.File.{File}
 use Rattle.pictures.specs.Scene.{Scene}
 use Rattle.pictures.specs.Depth.{depth}
 use Rattle.rules.specs.Joined.{rowOf}
 use Rattle.rules.specs.Places.{placesIn}
 use Rattle.rules.specs.Derivations.{sceneOf}
-use Rattle.rules.specs.Rules.{goodPrimary, rule12, judged}
-use Rattle.rules.specs.Words.{headWords, wordsOf}
-use Rattle.records.specs.Raw.{Bounded, rawOf}
+use Rattle.rules.specs.Rules.{goodPrimary, inOrder, rule12, rule15-16, judged}
+use Rattle.rules.specs.Words.{wordsOf}
+use Rattle.records.specs.Raw.{Bounded}
 use Rattle.views.specs.View.{TableOf, AllPlaced, AllFed}
 use Rattle.views.proofs.ViewLaws.{read-view, raw-judging, placed-view}
-use Rattle.views.proofs.FillLaws.{filledTo, filled-none, filled-all, filled-length, filled-target, words-sized}
+use Rattle.views.proofs.FillLaws.{filled-none, filled-all, filled-target, words-sized}
 use Rattle.depths.specs.Inputs.{InputsAre}
 use Rattle.derived.specs.Told.{Resolved}
 use Rattle.sizing.specs.Drawn.{Drawn}
+use Rattle.sizing.specs.Told.{toldFilled}
+use Rattle.sizing.specs.declared.Filled.{Filled}
+use Rattle.sizing.specs.declared.Filled.the-variants as filled
 use Rattle.records.proofs.BoundLaws.{read-bounds}
-use Rattle.judging.specs.Order.{ruleBy, itemsJudged, picturesJudged, Early, toldJudged, Read, JudgedBy}
+use Rattle.judging.specs.Order.{ruleBy, restJudged, picturesJudged, Early, toldJudged, Read, RestBy, JudgedBy}
+use Rattle.judging.specs.declared.Rule.the-variants.{Placed, Derived}
 use Rattle.judging.specs.declared.Judged.{Judged}
 use Rattle.judging.specs.declared.Judged.the-variants.{Good, Refused}
-use Rattle.judging.proofs.JudgedLaws.{told-off, told-on, told-good, placed-all, fed-all}
+use Rattle.judging.proofs.JudgedLaws.{told-off, told-on, told-good, fed-all}
 use Rattle.judging.proofs.SceneLaws.{scene-long, inputs-are}
 
 -- _>>_
@@ -38,10 +41,14 @@ unfolding _>>_
 then-then (ok u) b c = refl
 then-then (refuse n p) b c = refl
 
--- judged: 12, then 13 to 17, then 18 to 20
-judged-parts : (total : ℕ) (head : List ℕ) (f : File) → judged total head f ≡ (rule12 f >> (itemsJudged total head f >> picturesJudged total head f))
-unfolding judged itemsJudged picturesJudged ruleBy
-judged-parts total head f = simp then-then
+-- judged: 12, then 13 and 14, then the rest
+module _ (total : ℕ) (head : List ℕ) (f : File) where
+  abbrev placedJudged : Answer (Unit {0})
+  placedJudged = inOrder (ruleBy Placed total head f) 0 (f .items)
+
+  judged-parts : judged total head f ≡ (rule12 f >> (placedJudged >> restJudged total head f))
+  unfolding judged restJudged picturesJudged ruleBy
+  judged-parts = simp then-then
 
 -- what is refused leaves nothing to say of the table
 pub refused-by : (head : List ℕ) (total : ℕ) (f : File) (x : List ℕ) (y : Refusal) (u : List ℕ) → Refused y ≡ toldJudged (judged total head f) → JudgedBy head total f x (Refused y) u
@@ -67,28 +74,22 @@ module _ (head t x : List ℕ) (total idat : ℕ) (f : File) (w : Read t head to
   -- 12
   pub primary-off : (p : ℕ) → false ≡ goodPrimary f → p ≡ f .primary → Refused (record { number = 12; place = p }) ≡ toldJudged (judged total head f)
   unfolding rule12 check toldJudged
-  primary-off p e q = rw q (told-off (rule12 f) (itemsJudged total head f >> picturesJudged total head f) _ (ap toldJudged (ap (check 12 (f .primary)) (sym e)))) ∙ ap toldJudged (sym (judged-parts total head f))
+  primary-off p e q = rw q (told-off (rule12 f) (placedJudged total head f >> restJudged total head f) _ (ap toldJudged (ap (check 12 (f .primary)) (sym e)))) ∙ ap toldJudged (sym (judged-parts total head f))
 
   module _ (primary : true ≡ goodPrimary f) where
-    judged-on : judged total head f ≡ (itemsJudged total head f >> picturesJudged total head f)
+    judged-on : judged total head f ≡ (placedJudged total head f >> restJudged total head f)
     unfolding rule12 check _>>_
-    judged-on = judged-parts total head f ∙ ap (λ (m : Answer (Unit {0})). m >> (itemsJudged total head f >> picturesJudged total head f)) (ap (check 12 (f .primary)) (sym primary))
+    judged-on = judged-parts total head f ∙ ap (λ (m : Answer (Unit {0})). m >> (placedJudged total head f >> restJudged total head f)) (ap (check 12 (f .primary)) (sym primary))
 
-    -- 13 to 17
-    pub items-off : (y : Refusal) → toldJudged (itemsJudged total head f) ≡ Refused y → Refused y ≡ toldJudged (judged total head f)
-    items-off y e = told-off _ _ y e ∙ ap toldJudged (sym judged-on)
+    -- 13 and 14
+    pub placed-off : (y : Refusal) → toldJudged (placedJudged total head f) ≡ Refused y → Refused y ≡ toldJudged (judged total head f)
+    placed-off y e = told-off _ _ y e ∙ ap toldJudged (sym judged-on)
 
-    -- 18 to 20
-    pub items-on : toldJudged (itemsJudged total head f) ≡ Good → judged total head f ≡ picturesJudged total head f
-    items-on e = judged-on ∙ told-on _ _ e
-
-  -- every item keeps 13, 14 and 17
-  pub kept-placed : toldJudged (itemsJudged total head f) ≡ Good → AllPlaced total head f × AllFed total head f
-  unfolding itemsJudged
-  kept-placed e =
-      let a = then-ok _ _ tt (told-good _ e) in
-      let b = then-ok _ _ tt (a .2) in
-      (placed-all total head f (a .1), fed-all total head f (b .2))
+    -- 15 to 20
+    pub placed-on : toldJudged (placedJudged total head f) ≡ Good → (j : Judged) (u : List ℕ) → RestBy head total f x j u → JudgedBy head total f x j u
+    placed-on e j u b =
+        let z = judged-on ∙ told-on _ _ e in
+        record { answer = b .answer ∙ ap toldJudged (sym z); left = λ o. b .left (sym z ∙ o) }
 
   -- the table with sizes
   module _ (few : total < 18446744073709551616) (placed : AllPlaced total head f) (fed : AllFed total head f) where
@@ -110,40 +111,66 @@ module _ (head t x : List ℕ) (total idat : ℕ) (f : File) (w : Read t head to
           fed = fed;
         }
 
-    -- what lies behind the table stays
-    pub behind : (u : List ℕ) → u ≡ wordsOf total head f ++ x → drop 11280 u ≡ drop 11280 t
-    behind u e =
-        ap (drop 11280) e
-        ∙ ap (λ (v : List ℕ). drop 11280 (v ++ x)) (sym (filled-all total head f few (w .read) placed))
-        ∙ drop-at (filledTo total head f (length (f .items))) x 11280 (filled-length total head f bounds (length (f .items)))
-        ∙ sym (drop-at (filledTo total head f 0) x 11280 (filled-length total head f bounds 0))
-        ∙ ap (λ (v : List ℕ). drop 11280 (v ++ x)) (filled-none total head f)
-        ∙ ap (drop 11280) (sym (w .is))
+-- toldFilled: 15 or 16 refuses, or what comes behind decides
+module _ (m k : Answer (Unit {0})) where
+  filled-off : (y : Refusal) → toldFilled m ≡ filled.Refused y → Refused y ≡ toldJudged (m >> k)
+  unfolding toldFilled toldJudged _>>_
+  filled-off y = by m
+    where
+      by : (m : Answer (Unit {0})) → toldFilled m ≡ filled.Refused y → Refused y ≡ toldJudged (m >> k)
+      by (ok u) e = let z : _≡_ {A = ℕ} 0 1 = cc in absurd (omega arith)
+      by (refuse n p) e = cc
 
--- the last stage: n items, their depths d, the resolved rows, u the table that fill_sizes left, j what judge_pictures says
+  filled-on : toldFilled m ≡ filled.All → (m >> k) ≡ k
+  unfolding toldFilled _>>_
+  filled-on = by m
+    where
+      by : (m : Answer (Unit {0})) → toldFilled m ≡ filled.All → (m >> k) ≡ k
+      by (ok u) e = refl
+      by (refuse n p) e = let z : _≡_ {A = ℕ} 0 1 = cc in absurd (omega arith)
+
+-- the rest: n items, their depths d, the resolved rows; what fill_sizes says, s, and leaves, u; what 17 says, v
 module _ (head t x : List ℕ) (total idat : ℕ) (f : File) (w : Read t head total idat f x) (few : total < 18446744073709551616)
-    (n : ℕ) (rows d u : List ℕ) (j : Judged) (counted : n ≡ getD t 0 0) (resolved : Resolved t rows f)
-    (items : toldJudged (itemsJudged total head f) ≡ Good)
+    (n : ℕ) (rows d u : List ℕ) (s : Filled) (v : Judged) (counted : n ≡ getD t 0 0) (resolved : Resolved t rows f) (placed : AllPlaced total head f)
+    (derives : v ≡ toldJudged (inOrder (ruleBy Derived total head f) 0 (f .items)))
+    (declares : s ≡ toldFilled (inOrder (λ (r : ℕ) (i : Item). rule15-16 f i) 0 (f .items)))
     (deep : (s : Scene) → length s ≡ n → InputsAre t rows s → (r : ℕ) → r < n → getD d r 0 ≡ depth s r)
-    (filled : (total : ℕ) (f : File) (x : List ℕ) → total < 18446744073709551616 → readFile total head ≡ ok f → AllPlaced total head f → t ≡ rawOf (headWords total f) (placesIn total head) f ++ x
-    → ((r : ℕ) → r < length (f .items) → getD d r 0 ≡ depth (sceneOf total head f) r) → u ≡ wordsOf total head f ++ x) where
-  counts : n ≡ length (f .items)
-  counts = counted ∙ read-here head t x total idat f w .items
+    (fills : ((r : ℕ) → r < length (f .items) → getD d r 0 ≡ depth (sceneOf total head f) r) → s ≡ filled.All → u ≡ wordsOf total head f ++ x) where
+  -- what is refused leaves nothing to say of the table
+  refused-rest : (y : Refusal) → Refused y ≡ toldJudged (restJudged total head f) → RestBy head total f x (Refused y) u
+  unfolding toldJudged
+  refused-rest y e = record { answer = e; left = λ o. let z : _≡_ {A = ℕ} 0 1 = cc in absurd (omega arith) }
 
-  sized : u ≡ wordsOf total head f ++ x
-  sized =
-      let k = kept-placed head t x total idat f w items in
-      let s = sceneOf total head f in
-      let i = inputs-are total head f t rows (placesIn total head) (read-here head t x total idat f w) resolved (k .1) in
-      filled total f x few (w .read) (k .0) (w .is) (λ r h. deep s (scene-long total head f ∙ sym counts) i r (omega (arith, counts)))
+  -- 15 and 16
+  pub declared-off : (y : Refusal) → s ≡ filled.Refused y → RestBy head total f x (Refused y) u
+  unfolding restJudged
+  declared-off y e = refused-rest y (filled-off _ _ y (sym declares ∙ e))
 
-  pub last-kept : drop 11280 u ≡ drop 11280 t
-  last-kept = let k = kept-placed head t x total idat f w items in behind head t x total idat f w few (k .0) (k .1) u sized
+  module _ (all : s ≡ filled.All) where
+    declared-on : restJudged total head f ≡ (inOrder (ruleBy Derived total head f) 0 (f .items) >> picturesJudged total head f)
+    unfolding restJudged
+    declared-on = filled-on _ _ (sym declares ∙ all)
 
-  pub last-by : true ≡ goodPrimary f → ((f : File) → Drawn u rows head total f → j ≡ toldJudged (picturesJudged total head f)) → JudgedBy head total f x j u
-  last-by primary pictures =
-      let k = kept-placed head t x total idat f w items in
-      record {
-        answer = pictures f (drawn head t x total idat f w few (k .0) (k .1) u rows sized resolved) ∙ ap toldJudged (sym (items-on head t x total idat f w primary items));
-        left = λ o. sized;
-      }
+    -- 17
+    pub derived-off : (y : Refusal) → v ≡ Refused y → RestBy head total f x (Refused y) u
+    derived-off y e = refused-rest y (told-off _ _ y (sym derives ∙ e) ∙ ap toldJudged (sym declared-on))
+
+    -- 18 to 20
+    module _ (good : v ≡ Good) where
+      fed : AllFed total head f
+      fed = fed-all total head f (told-good _ (sym derives ∙ good))
+
+      counts : n ≡ length (f .items)
+      counts = counted ∙ read-here head t x total idat f w .items
+
+      sized : u ≡ wordsOf total head f ++ x
+      sized =
+          let i = inputs-are total head f t rows (placesIn total head) (read-here head t x total idat f w) resolved fed in
+          fills (λ r h. deep (sceneOf total head f) (scene-long total head f ∙ sym counts) i r (omega (arith, counts))) all
+
+      pub rest-on : (j : Judged) → ((f : File) → Drawn u rows head total f → j ≡ toldJudged (picturesJudged total head f)) → RestBy head total f x j u
+      rest-on j pictures =
+          record {
+            answer = pictures f (drawn head t x total idat f w few placed fed u rows sized resolved) ∙ ap toldJudged (sym (declared-on ∙ told-on _ _ (sym derives ∙ good)));
+            left = λ o. sized;
+          }

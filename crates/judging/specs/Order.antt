@@ -1,11 +1,11 @@
 -- Refusals 13 to 20 as the code asks for them: each rule of each item in table order.
 --   ruleBy rule total head f      what a rule says of an item, with its row
---   itemsJudged, picturesJudged   13 to 17, and 18 to 20
+--   restJudged, picturesJudged    15 to 20, and 18 to 20
 --   Read t head total f x         the table t is that of the file f as it was read, x lies behind it
---   Early, Ready                  what is known when a rule is asked: before 17 the table as it was read, from 18 on the table with sizes
+--   Early, Ready                  what is known when a rule is asked: up to 17 the table as it was read, from 18 on the table with sizes
 --   NoneDeeper t w                no record of the table t has a depth over w
 --   toldJudged m                  the code's value
---   JudgedBy ..                   what judging answers and leaves in the table
+--   RestBy .., JudgedBy ..        what judging from 15 on, and from 12 on, answers and leaves in the table
 use Prim.Native.Nat.{ℕ, _+_, _≤_, _<_}
 use mathlib.Core.Path.{_≡_}
 use mathlib.Core.List.{List, _++_}
@@ -22,24 +22,23 @@ use Rattle.views.specs.View.{TableOf, Judging, AllPlaced, recordWord}
 use Rattle.derived.specs.Told.{Resolved}
 use Rattle.sizing.specs.Drawn.{Drawn}
 use Rattle.judging.specs.declared.Rule.{Rule}
-use Rattle.judging.specs.declared.Rule.the-variants.{Placed, Declared, Derived, Itself, Deep, Sized}
+use Rattle.judging.specs.declared.Rule.the-variants.{Placed, Derived, Itself, Deep, Sized}
 use Rattle.judging.specs.declared.Judged.{Judged}
 use Rattle.judging.specs.declared.Judged.the-variants.{Good, Refused}
 
 unfoldable pub ruleBy : Rule → ℕ → List ℕ → File → ℕ → Item → Answer (Unit {0})
 ruleBy Placed total head f r i = rule13-14 total head f i
-ruleBy Declared total head f r i = rule15-16 f i
 ruleBy Derived total head f r i = rule17 total head f i
 ruleBy Itself total head f r i = rule18 (sceneOf total head f) r i
 ruleBy Deep total head f r i = rule19 (sceneOf total head f) r i
 ruleBy (Sized d) total head f r i = rule20 (sceneOf total head f) d r i
 
--- 13 to 17, and 18 to 20
-unfoldable pub itemsJudged : ℕ → List ℕ → File → Answer (Unit {0})
-itemsJudged total head f = inOrder (ruleBy Placed total head f) 0 (f .items) >> (inOrder (ruleBy Declared total head f) 0 (f .items) >> inOrder (ruleBy Derived total head f) 0 (f .items))
-
+-- 18 to 20, and 15 to 20
 unfoldable pub picturesJudged : ℕ → List ℕ → File → Answer (Unit {0})
 picturesJudged total head f = inOrder (ruleBy Itself total head f) 0 (f .items) >> (inOrder (ruleBy Deep total head f) 0 (f .items) >> byDepth (sceneOf total head f) (f .items) 17 0)
+
+unfoldable pub restJudged : ℕ → List ℕ → File → Answer (Unit {0})
+restJudged total head f = inOrder (λ (r : ℕ) (i : Item). rule15-16 f i) 0 (f .items) >> (inOrder (ruleBy Derived total head f) 0 (f .items) >> picturesJudged total head f)
 
 -- idat: where the content of `idat` ends in the head
 pub record Early (t rows head : List ℕ) (total idat : ℕ) (f : File) : Type 0 where
@@ -50,7 +49,6 @@ pub record Early (t rows head : List ℕ) (total idat : ℕ) (f : File) : Type 0
 
 abbrev pub Ready : Rule → List ℕ → List ℕ → List ℕ → ℕ → ℕ → File → Type 0
 Ready Placed t rows head total idat f = Early t rows head total idat f
-Ready Declared t rows head total idat f = Early t rows head total idat f
 Ready Derived t rows head total idat f = Early t rows head total idat f × AllPlaced total head f
 Ready Itself t rows head total idat f = Drawn t rows head total f
 Ready Deep t rows head total idat f = Drawn t rows head total f
@@ -67,6 +65,10 @@ pub record Read (t head : List ℕ) (total idat : ℕ) (f : File) (x : List ℕ)
   pub read : readFile total head ≡ ok f
   pub is : t ≡ rawOf (headWords total f) (placesIn total head) f ++ x
   pub ends : placesIn total head .idat + length (f .idat) ≡ idat
+
+pub record RestBy (head : List ℕ) (total : ℕ) (f : File) (x : List ℕ) (j : Judged) (u : List ℕ) : Type 0 where
+  pub answer : j ≡ toldJudged (restJudged total head f)
+  pub left : restJudged total head f ≡ ok tt → u ≡ wordsOf total head f ++ x
 
 pub record JudgedBy (head : List ℕ) (total : ℕ) (f : File) (x : List ℕ) (j : Judged) (u : List ℕ) : Type 0 where
   pub answer : j ≡ toldJudged (judged total head f)

@@ -8,11 +8,15 @@ ghost use Rattle.contents.specs.File.{File};
 ghost use Rattle.rules.specs.Joined.{itemAt};
 ghost use Rattle.rules.specs.Derivations.{sceneOf};
 ghost use Rattle.rules.specs.Rules.{inOrder, rule18, rule19, rule20, byDepth};
+ghost use Rattle.views.specs.View.{AllPlaced};
 ghost use Rattle.views.specs.Told.{faultOf};
+ghost use Rattle.derived.specs.Told.{Resolved};
 ghost use Rattle.sizing.specs.Drawn.{Drawn};
-ghost use Rattle.judging.specs.Order.{ruleBy, itemsJudged, picturesJudged, Early, Ready, NoneDeeper, toldJudged, Read, JudgedBy};
+ghost use Rattle.judging.specs.Order.{ruleBy, picturesJudged, Ready, NoneDeeper, toldJudged, Read, RestBy, JudgedBy};
 use boxes::Refusal;
+use sizing::Filled;
 use table::ItemRow;
+use table::Table;
 
 pub enum Judged {
     Good,
@@ -23,9 +27,7 @@ pub enum Judged {
 pub enum Rule {
     // 13 before 14.
     Placed,
-    // 15 before 16.
-    Declared,
-    // 17, 18, 19.
+    // 17, 18, 19. 15 and 16 are asked where the sizes are filled in.
     Derived,
     Itself,
     Deep,
@@ -90,7 +92,6 @@ fn fault_of(
 {
     match rule {
         Rule::Placed => placed::place_fault(table, row, total, idat),
-        Rule::Declared => declared::declared_fault(table, row),
         Rule::Derived => derived::derived_fault(head, table, rows, row),
         Rule::Itself => itself_fault(table, rows, row),
         Rule::Deep => deep_fault(table, row),
@@ -98,7 +99,7 @@ fn fault_of(
     }
 }
 
-// The first item in table order that a rule refuses.
+// The first item in table order that a rule refuses. No table of a file is shorter or has more items: the two tests spare every reader of a record its own.
 fn first_fault(
     head: &[u8],
     total: u64,
@@ -109,7 +110,13 @@ fn first_fault(
 ) -> Judged
     ensures { λ r. ⌜ ((f : File) → Ready rule (now (table .entry)) (now (rows .entry)) (now (head .entry)) total idat f → r ≡ toldJudged (inOrder (ruleBy rule total (now (head .entry)) f) 0 (f .items))) ⌝ }
 {
+    if table.len() < Table::WORDS {
+        return Judged::Good;
+    }
     let n = views::item_count(table);
+    if 256 < n {
+        return Judged::Good;
+    }
     let mut k: usize = 0;
     while k < n {
         let row = views::row_at(table, k);
@@ -172,23 +179,6 @@ fn by_depth(
     Judged::Good
 }
 
-// 13 to 17, on the table as it was read.
-fn judge_items(head: &[u8], total: u64, table: &[u32], rows: &[u32], idat: usize) -> Judged
-    ensures { λ r. ⌜ ((f : File) → Early (now (table .entry)) (now (rows .entry)) (now (head .entry)) total idat f → r ≡ toldJudged (itemsJudged total (now (head .entry)) f)) ⌝ }
-{
-    let p = first_fault(head, total, table, rows, idat, Rule::Placed);
-    match p {
-        Judged::Refused(f) => Judged::Refused(f),
-        Judged::Good => {
-            let d = first_fault(head, total, table, rows, idat, Rule::Declared);
-            match d {
-                Judged::Refused(f) => Judged::Refused(f),
-                Judged::Good => first_fault(head, total, table, rows, idat, Rule::Derived),
-            }
-        }
-    }
-}
-
 // 18 for every item. Where all rest on pictures without inputs no item is asked.
 fn judge_itself(head: &[u8], total: u64, table: &[u32], rows: &[u32], idat: usize) -> Judged
     ensures { λ r. ⌜ ((f : File) → Drawn (now (table .entry)) (now (rows .entry)) (now (head .entry)) total f → r ≡ toldJudged (inOrder (ruleBy Rule.Itself total (now (head .entry)) f) 0 (f .items))) ⌝ }
@@ -223,6 +213,25 @@ fn judge_pictures(head: &[u8], total: u64, table: &[u32], rows: &[u32], idat: us
     }
 }
 
+// 15 to 20, for a file that keeps 12 to 14. 15 and 16 are judged where sizes and depths are filled in, and depths are right only where 17 is kept: so 17 is asked first, on the table as it was read, and what it says waits.
+fn judge_placed(head: &[u8], total: u64, table: &mut [u32], rows: &[u32], idat: usize) -> Judged
+    requires { ⌜ ((f : File) × (x : List ℕ) × Read (now table) (now head) total idat f x) ⌝ }
+    ensures { λ r. ⌜ ((f : File) (x : List ℕ) → Read (now (table .entry)) (now (head .entry)) total idat f x → Resolved (now (table .entry)) (now (rows .entry)) f → AllPlaced total (now (head .entry)) f → RestBy (now (head .entry)) total f x r (now (table .exit))) ⌝ }
+    ensures { λ _. ⌜ drop 11280 (now (table .exit)) ≡ drop 11280 (now (table .entry)) ⌝ }
+{
+    let d = first_fault(head, total, &*table, rows, idat, Rule::Derived);
+    let n = views::item_count(&*table);
+    let depths = depths::depths_of(&*table, rows, n);
+    let s = sizing::fill_sizes(head, table, &depths);
+    match s {
+        Filled::Refused(f) => Judged::Refused(f),
+        Filled::All => match d {
+            Judged::Refused(f) => Judged::Refused(f),
+            Judged::Good => judge_pictures(head, total, &*table, rows, idat),
+        },
+    }
+}
+
 // The table of a file that was read becomes that of the accepted file, or the first fault of 12 to 20 is given.
 pub fn judge(head: &[u8], total: u64, table: &mut [u32], idat: usize) -> Judged
     requires { ⌜ ((f : File) × (x : List ℕ) × Read (now table) (now head) total idat f x) ⌝ }
@@ -237,14 +246,9 @@ pub fn judge(head: &[u8], total: u64, table: &mut [u32], idat: usize) -> Judged
     }
     let mut rows = [0u32; 2048];
     derived::resolve(&*table, &mut rows);
-    let items = judge_items(head, total, &*table, &rows, idat);
-    match items {
+    let p = first_fault(head, total, &*table, &rows, idat, Rule::Placed);
+    match p {
         Judged::Refused(f) => Judged::Refused(f),
-        Judged::Good => {
-            let n = views::item_count(&*table);
-            let d = depths::depths_of(&*table, &rows, n);
-            sizing::fill_sizes(head, table, &d);
-            judge_pictures(head, total, &*table, &rows, idat)
-        }
+        Judged::Good => judge_placed(head, total, table, &rows, idat),
     }
 }

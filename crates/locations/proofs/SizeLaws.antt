@@ -1,10 +1,10 @@
 -- What stands before the entries of an `iloc`, one way out at a time. Assumes nothing.
 use Prim.Native.Nat.{ℕ, _+_, _-_, _/_, _%_, _<_, _≤_}
 use native.Mathlib.Omega.{arith}
-use mathlib.Core.Path.{_≡_, refl, sym, _∙_, subst}
+use mathlib.Core.Path.{_≡_, refl, sym, ap, _∙_, subst}
 use mathlib.Core.List.{List, []}
 use mathlib.Core.Bool.{Bool, true, false, _&&_, _||_}
-use mathlib.Core.Logic.{_⊎_, inl, inr}
+use mathlib.Core.Logic.{_⊎_, inl, inr, ⊎-elim}
 use lib.ListN.{length, drop}
 use lib.Dec.{eqb}
 use borrow.Author.Tests.{eqb-true, le-leb, lt-leb}
@@ -20,6 +20,10 @@ use Rattle.contents.proofs.FullLaws.{FullHere}
 use Rattle.locations.specs.declared.Widths.{Widths}
 use Rattle.locations.specs.Parts.{widthsBy, Size, Sized, Front, count-form, sizes-form, entry-by, SizesHere, SizesAre}
 use Rattle.locations.specs.declared.Sizes.{Sizes}
+
+-- an ID of 4 bytes
+pub four-wide : (w : Widths) → Sized w → (w .id ≡ 2 → ⊥) → w .id ≡ 4
+four-wide w z h = ⊎-elim (λ e. absurd (h e)) (λ e. e) (z .id)
 
 -- fieldSize
 size-is : (n : ℕ) → fieldSize n ≡ true → Size n
@@ -160,9 +164,10 @@ module _ (ids : List ℕ) (p : ℕ) (s : List ℕ) where
     pub iloc-sizes-gone : (n q : ℕ) → sizes-form v .read p (drop 4 s) ≡ refuse n q → whole (iloc-form ids) p s ≡ refuse n q
     iloc-sizes-gone n q e = iloc-parts ∙ reads-got (full (upto 2)) p s _ _ _ (h .read) ∙ reads-refused (sizes-form v) p (drop 4 s) _ n q e
 
-    pub iloc-entries : (w : Widths) (n : ℕ) → SizesHere (sizes-form v .read p (drop 4 s)) s w n → whole (iloc-form ids) p s ≡ whole (many (entry-by ids w) n []) p (drop (6 + w .id) s)
-    iloc-entries w n z =
+    pub iloc-entries : (w : Widths) (n : ℕ) → SizesHere (sizes-form v .read p (drop 4 s)) s w n → (at : ℕ) → 6 + w .id ≡ at → whole (iloc-form ids) p s ≡ whole (many (entry-by ids w) n []) p (drop at s)
+    iloc-entries w n z at e =
         iloc-parts
         ∙ reads-got (full (upto 2)) p s _ _ _ (h .read)
         ∙ reads-got (sizes-form v) p (drop 4 s) _ _ _ (z .read)
         ∙ sym (whole-reads (many (entry-by ids w) n []) p (drop (6 + w .id) s))
+        ∙ ap (λ (k : ℕ). whole (many (entry-by ids w) n []) p (drop k s)) e

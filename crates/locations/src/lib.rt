@@ -446,8 +446,11 @@ pub fn read_locations(s: &[u8], place: u64, table: &mut [u32], n: usize, idat: u
             match z {
                 Sizes::Refused(r) => LocationsRead::Refused(r),
                 Sizes::Is { widths, count } => {
-                    let wide = widths.id;
-                    put_entries(s, 6 + wide, count, widths, place, table, n, idat)
+                    // Behind the count, which is as wide as an ID.
+                    if widths.id == 2 {
+                        return put_entries(s, 8, count, widths, place, table, n, idat);
+                    }
+                    put_entries(s, 10, count, widths, place, table, n, idat)
                 }
             }
         }

@@ -1,5 +1,5 @@
 -- A test of each extent of an item, one after the other. Assumes nothing.
-use Prim.Native.Nat.{ℕ, zero, suc, _+_, _-_, _≤_, _<_}
+use Prim.Native.Nat.{ℕ, zero, suc, _+_, _≤_, _<_}
 use native.Mathlib.Nat.{not-suc-le-zero, le-of-suc-le-suc}
 use native.Mathlib.Numerals.{add-one}
 use native.Mathlib.Omega.{arith}
@@ -10,13 +10,14 @@ use lib.ListN.{length, getD, drop, drop-of-length-le}
 use lib.Dec.{leb, eqb}
 use mir.Val.{Fits}
 use mir.Syntax.{w64}
-use borrow.Author.Tests.{leb-false, eqb-false, not-true, le-leb, lt-leb, eq-eqb, ne-eqb}
+use borrow.Author.Tests.{leb-false, le-leb, lt-leb, eq-eqb, ne-eqb}
 use Rattle.fields.proofs.FieldLaws.{both}
-use Rattle.contents.specs.Iloc.{Extent}
+use Rattle.fields.proofs.TestLaws.{both-and, and-none}
+use Rattle.contents.specs.Iloc.{Extent, Location}
 use Rattle.contents.specs.File.{File}
 use Rattle.rules.specs.Bytes.{allExtents}
 use Rattle.rules.specs.Joined.{locationOf}
-use Rattle.rules.specs.Places.{Places}
+use Rattle.rules.specs.Places.{Places, fileOffset}
 use Rattle.records.specs.Raw.{capped}
 use Rattle.views.specs.View.{TableOf, recordWord, idOf, noExtent}
 use Rattle.views.proofs.TableLaws.{row-small}
@@ -40,6 +41,18 @@ module _ (t : Extent → Bool) where
     unfolding allExtents
     extents-pass h = sym (before ∙ ap (allExtents t) (drop-of-length-le es {i = j} h))
 
+-- two tests in one pass
+and-pairs : (a b c d : Bool) → ((a && b) && (c && d)) ≡ ((a && c) && (b && d))
+and-pairs true true c d = refl
+and-pairs true false true d = refl
+and-pairs true false false d = refl
+and-pairs false b c d = refl
+
+pub extents-both : (t u : Extent → Bool) (es : List Extent) → allExtents (λ (e : Extent). t e && u e) es ≡ (allExtents t es && allExtents u es)
+unfolding allExtents
+extents-both t u [] = refl
+extents-both t u (e ∷ es) = ap (λ (b : Bool). (t e && u e) && b) (extents-both t u es) ∙ and-pairs (t e) (u e) (allExtents t es) (allExtents u es)
+
 -- the table has as many extents for an item as the file
 pub extents-count : {t head : List ℕ} {pl : Places} {f : File} → TableOf t head pl f → (r n : ℕ) → r < length (f .items) → (r < 256 → n ≡ recordWord t r 8) → n ≡ length (locationOf f (idOf f r) .extents)
 extents-count v r n h e = e (row-small v r h) ∙ v .extent-count r h
@@ -51,18 +64,27 @@ some-length n m e h = rw (← e, ne-eqb n 0 h) refl
 pub no-length : (n m : ℕ) → n ≡ m → n ≡ 0 → not (eqb m 0) ≡ false
 no-length n m e h = rw (← e, eq-eqb n 0 h) refl
 
+-- a length, and an end at `end` or before it
+abbrev pub endsBy : ℕ → Places → Location → Extent → Bool
+endsBy end pl l e = not (eqb (e .size) 0) && leb (fileOffset pl l e + e .size) end
+
 -- capped: an extent of n bytes from x on, as the table has it, against an end
 module _ (end x n o m : ℕ) (few : Fits w64 end) (place : o ≡ capped x) (long : m ≡ n) where
-  pub ends-past : end < o + m → leb (x + n) end ≡ false
+  pub ends-empty : m ≡ 0 → (not (eqb n 0) && leb (x + n) end) ≡ false
+  ends-empty z = rw (no-length m n long z) refl
+
+  pub ends-past : end < o + m → (not (eqb n 0) && leb (x + n) end) ≡ false
   ends-past h =
-      both (λ (p : ℕ). o ≡ p → leb (x + n) end ≡ false) (leb x 18446744073709551615) _ _
+      and-none (not (eqb n 0)) _
+      (both (λ (p : ℕ). o ≡ p → leb (x + n) end ≡ false) (leb x 18446744073709551615) _ _
       (λ e q. lt-leb (x + n) end (omega arith))
       (λ e q. lt-leb (x + n) end (omega (arith, leb-false x 18446744073709551615 e)))
-      place
+      place)
 
-  pub ends-before : o + m ≤ end → not (eqb n 0) ≡ true → leb (x + n) end ≡ true
+  pub ends-before : o + m ≤ end → (m ≡ 0 → ⊥) → (not (eqb n 0) && leb (x + n) end) ≡ true
   ends-before h z =
-      both (λ (p : ℕ). o ≡ p → leb (x + n) end ≡ true) (leb x 18446744073709551615) _ _
+      both-and (not (eqb n 0)) _ (some-length m n long z)
+      (both (λ (p : ℕ). o ≡ p → leb (x + n) end ≡ true) (leb x 18446744073709551615) _ _
       (λ e q. le-leb (x + n) end (omega arith))
-      (λ e q. absurd (eqb-false n 0 (not-true (eqb n 0) z) (omega arith)))
-      place
+      (λ e q. absurd (z (omega arith)))
+      place)

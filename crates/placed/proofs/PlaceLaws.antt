@@ -6,7 +6,7 @@ use mathlib.Core.List.{List}
 use mathlib.Core.Bool.{Bool, true, false, _&&_, not}
 use lib.ListN.{length}
 use lib.Dec.{leb, eqb}
-use borrow.Author.Tests.{leb-true, leb-false, eqb-true, eqb-false, le-leb, lt-leb, eq-eqb, ne-eqb}
+use borrow.Author.Tests.{leb-true, leb-false, eqb-true, eqb-false, le-leb, lt-leb}
 use Rattle.fields.specs.Choice.{pick}
 use Rattle.fields.proofs.TestLaws.{and-both, and-false, and-true}
 use Rattle.boxes.specs.Answer.{_>>_, check}
@@ -52,7 +52,7 @@ module _ {t head : List ℕ} {pl : Places} {f : File} (v : TableOf t head pl f) 
     method-read : m ≡ locationOf f (idOf f r) .method
     method-read = e (row-small v r h) ∙ v .method r h
 
-    pub method-unknown : 1 < m → false ≡ (goodMethod (locationOf f (idOf f r)) && goodLengths (locationOf f (idOf f r)))
+    pub method-unknown : 1 < m → false ≡ goodMethod (locationOf f (idOf f r))
     method-unknown l = rw (← method-read, lt-leb m 1 l) refl
 
     module _ (total : ℕ) where
@@ -64,15 +64,8 @@ module _ {t head : List ℕ} {pl : Places} {f : File} (v : TableOf t head pl f) 
           → within (storeOf total head f (locationOf f (idOf f r) .method)) (locationOf f (idOf f r)) ≡ allExtents (λ (e : Extent). leb (fileOffset pl (locationOf f (idOf f r)) e + e .size) total) (locationOf f (idOf f r) .extents)
       within-file q = within-before total head f pl (locationOf f (idOf f r)) total (λ x. absurd (q (method-read ∙ x))) (λ x. refl)
 
-    module _ (w : Judging t f) (few : m ≤ 1) (d : ℕ) (q : r < 256 → d ≡ recordWord t r 10) where
-      reference-read : d ≡ locationOf f (idOf f r) .reference
-      reference-read = q (row-small v r h) ∙ w .reference r h
-
-      pub reference-elsewhere : (d ≡ 0 → ⊥) → false ≡ (goodMethod (locationOf f (idOf f r)) && goodLengths (locationOf f (idOf f r)))
-      reference-elsewhere z = rw (← method-read, ← reference-read, le-leb m 1 few, ne-eqb d 0 z) refl
-
-      pub reference-here : d ≡ 0 → (g : Bool) → g ≡ goodLengths (locationOf f (idOf f r)) → g ≡ (goodMethod (locationOf f (idOf f r)) && goodLengths (locationOf f (idOf f r)))
-      reference-here z g y = rw (← method-read, ← reference-read, le-leb m 1 few, eq-eqb d 0 z) y
+    pub reference-here : Judging t f → m ≤ 1 → (d : ℕ) → (r < 256 → d ≡ recordWord t r 10) → eqb d 0 ≡ goodMethod (locationOf f (idOf f r))
+    reference-here w few d q = rw (← method-read, ← w .reference r h, ← q (row-small v r h), le-leb m 1 few) refl
 
   -- hasBytes
   module _ (n : ℕ) (e : r < 256 → n ≡ recordWord t r 8) where
@@ -84,25 +77,32 @@ module _ {t head : List ℕ} {pl : Places} {f : File} (v : TableOf t head pl f) 
     pub bytes-some : (n ≡ 0 → ⊥) → true ≡ hasBytes f (itemAt f r)
     bytes-some z = sym (ap not (and-false (coded (itemAt f r .type)) _ (λ a b. z (extents-count v r n h e ∙ ap length (nothing-in (locationOf f (idOf f r) .extents) b)))))
 
--- rule13-14: by three answers, each needed only where those before it are yes
-module _ (total : ℕ) (head : List ℕ) (f : File) (i : Item) (good : Bool) (e : good ≡ (goodMethod (locationOf f (i .id)) && goodLengths (locationOf f (i .id)))) where
-  pub fault-13 : good ≡ false → 13 ≡ faultOf (rule13-14 total head f i)
+-- rule13-14: by answers, each needed only where those before it are yes; the lengths apart only where an extent is wrong
+module _ (total : ℕ) (head : List ℕ) (f : File) (i : Item) (good : Bool) (e : good ≡ goodMethod (locationOf f (i .id))) where
+  pub fault-method : good ≡ false → 13 ≡ faultOf (rule13-14 total head f i)
   unfolding rule13-14 faultOf check _>>_
-  fault-13 n = rw (← e, n) refl
+  fault-method n = rw (← e, n) refl
 
-  module _ (y : good ≡ true) (inside : Bool) (q : goodLengths (locationOf f (i .id)) ≡ true → inside ≡ within (storeOf total head f (locationOf f (i .id) .method)) (locationOf f (i .id))) where
-    inside-is : inside ≡ within (storeOf total head f (locationOf f (i .id) .method)) (locationOf f (i .id))
-    inside-is = q (and-both (goodMethod (locationOf f (i .id))) _ (sym e ∙ y) .1)
+  module _ (y : good ≡ true) (inside : Bool) (q : inside ≡ (goodLengths (locationOf f (i .id)) && within (storeOf total head f (locationOf f (i .id) .method)) (locationOf f (i .id)))) where
+    module _ (n : inside ≡ false) (long : Bool) (p : long ≡ goodLengths (locationOf f (i .id))) where
+      pub fault-length : long ≡ false → 13 ≡ faultOf (rule13-14 total head f i)
+      unfolding rule13-14 faultOf check _>>_
+      fault-length z = rw (← e, y, ← p, z) refl
 
-    pub fault-outside : inside ≡ false → 14 ≡ faultOf (rule13-14 total head f i)
-    unfolding rule13-14 faultOf check _>>_
-    fault-outside n = rw (← e, y, ← inside-is, n) refl
+      pub fault-outside : long ≡ true → 14 ≡ faultOf (rule13-14 total head f i)
+      unfolding rule13-14 faultOf check _>>_
+      fault-outside z =
+          let o : within (storeOf total head f (locationOf f (i .id) .method)) (locationOf f (i .id)) ≡ false = rw (sym p ∙ z) at (sym q ∙ n) in
+          rw (← e, y, ← p, z, o) refl
 
     module _ (z : inside ≡ true) (full : Bool) (p : full ≡ hasBytes f i) where
+      both-good : (goodLengths (locationOf f (i .id)) ≡ true) × (within (storeOf total head f (locationOf f (i .id) .method)) (locationOf f (i .id)) ≡ true)
+      both-good = and-both (goodLengths (locationOf f (i .id))) _ (sym q ∙ z)
+
       pub fault-empty : full ≡ false → 14 ≡ faultOf (rule13-14 total head f i)
       unfolding rule13-14 faultOf check _>>_
-      fault-empty n = rw (← e, y, ← inside-is, z, ← p, n) refl
+      fault-empty n = rw (← e, y, both-good .0, both-good .1, ← p, n) refl
 
       pub fault-none : full ≡ true → 0 ≡ faultOf (rule13-14 total head f i)
       unfolding rule13-14 faultOf check _>>_
-      fault-none n = rw (← e, y, ← inside-is, z, ← p, n) refl
+      fault-none n = rw (← e, y, both-good .0, both-good .1, ← p, n) refl

@@ -1,7 +1,7 @@
 // Refusals 12 to 14: the primary item, and where an item's bytes lie.
 ghost use mathlib.Core.Path.{_≡_};
 ghost use mathlib.Core.List.{List};
-ghost use mathlib.Core.Bool.{true, _&&_};
+ghost use mathlib.Core.Bool.{_&&_};
 ghost use Prim.Native.Nat.{ℕ, _+_, _<_};
 ghost use lib.ListN.{length};
 ghost use lib.Dec.{leb};
@@ -49,19 +49,23 @@ fn has_lengths(table: &[u32], row: ItemRow) -> bool
     true
 }
 
-// Whether each extent of an item ends at a place of the file or before it. An offset that passes 64 bits stands in the table as the largest number, from which no length is left.
+// Whether each extent of an item has a length and ends at a place of the file or before it. An offset that passes 64 bits stands in the table as the largest number, from which no length is left.
 fn lie_before(table: &[u32], row: ItemRow, end: u64) -> bool
-    ensures { λ r. ⌜ ((head : List ℕ) (pl : Places) (f : File) → TableOf (now (table .entry)) head pl f → row .0 < length (f .items) → goodLengths (locationOf f (idOf f (row .0))) ≡ true → r ≡ allExtents (λ (e : Extent). leb (fileOffset pl (locationOf f (idOf f (row .0))) e + e .size) end) (locationOf f (idOf f (row .0)) .extents)) ⌝ }
+    ensures { λ r. ⌜ ((head : List ℕ) (pl : Places) (f : File) → TableOf (now (table .entry)) head pl f → row .0 < length (f .items) → r ≡ (goodLengths (locationOf f (idOf f (row .0))) && allExtents (λ (e : Extent). leb (fileOffset pl (locationOf f (idOf f (row .0))) e + e .size) end) (locationOf f (idOf f (row .0)) .extents))) ⌝ }
 {
     let n = views::record_word(table, row, 8) as usize;
     let mut j: usize = 0;
     while j < n {
         let e = views::extent_of(table, row, j);
         let offset = e.offset;
+        let size = e.size;
+        if size == 0 {
+            return false;
+        }
         if end < offset {
             return false;
         }
-        if end - offset < e.size {
+        if end - offset < size {
             return false;
         }
         j += 1;
@@ -69,22 +73,19 @@ fn lie_before(table: &[u32], row: ItemRow, end: u64) -> bool
     true
 }
 
-// Whether an item has a method that there is, its bytes in this file, and a length at each extent.
-fn good_location(table: &[u32], row: ItemRow) -> bool
-    ensures { λ r. ⌜ ((head : List ℕ) (pl : Places) (f : File) → TableOf (now (table .entry)) head pl f → Judging (now (table .entry)) f → row .0 < length (f .items) → r ≡ (goodMethod (locationOf f (idOf f (row .0))) && goodLengths (locationOf f (idOf f (row .0))))) ⌝ }
+// Whether an item has a method that there is, and its bytes in this file.
+fn good_method(table: &[u32], row: ItemRow) -> bool
+    ensures { λ r. ⌜ ((head : List ℕ) (pl : Places) (f : File) → TableOf (now (table .entry)) head pl f → Judging (now (table .entry)) f → row .0 < length (f .items) → r ≡ goodMethod (locationOf f (idOf f (row .0)))) ⌝ }
 {
     if 1 < views::record_word(table, row, 9) {
         return false;
     }
-    if views::record_word(table, row, 10) != 0 {
-        return false;
-    }
-    has_lengths(table, row)
+    views::record_word(table, row, 10) == 0
 }
 
-// Whether each extent of an item ends where its source does or before. The content of `idat` ends at `idat`.
+// Whether each extent of an item has a length and ends where its source does or before. The content of `idat` ends at `idat`.
 fn lies_within(table: &[u32], row: ItemRow, total: u64, idat: usize) -> bool
-    ensures { λ r. ⌜ ((head : List ℕ) (pl : Places) (f : File) → TableOf (now (table .entry)) head pl f → pl .idat + length (f .idat) ≡ idat → row .0 < length (f .items) → goodLengths (locationOf f (idOf f (row .0))) ≡ true → r ≡ within (storeOf total head f (locationOf f (idOf f (row .0)) .method)) (locationOf f (idOf f (row .0)))) ⌝ }
+    ensures { λ r. ⌜ ((head : List ℕ) (pl : Places) (f : File) → TableOf (now (table .entry)) head pl f → pl .idat + length (f .idat) ≡ idat → row .0 < length (f .items) → r ≡ (goodLengths (locationOf f (idOf f (row .0))) && within (storeOf total head f (locationOf f (idOf f (row .0)) .method)) (locationOf f (idOf f (row .0))))) ⌝ }
 {
     if views::record_word(table, row, 9) == 1 {
         return lie_before(table, row, idat as u64);
@@ -102,15 +103,18 @@ fn has_bytes(table: &[u32], row: ItemRow) -> bool
     true
 }
 
-// 13 before 14 for the item in a row, 0 where neither is given. The content of `idat` ends at `idat`.
+// 13 before 14 for the item in a row, 0 where neither is given. The content of `idat` ends at `idat`. Only where an extent is wrong are the lengths gone over once more.
 pub fn place_fault(table: &[u32], row: ItemRow, total: u64, idat: usize) -> u32
     ensures { λ r. ⌜ ((head : List ℕ) (pl : Places) (f : File) → TableOf (now (table .entry)) head pl f → Judging (now (table .entry)) f → pl .idat + length (f .idat) ≡ idat → row .0 < length (f .items) → r ≡ faultOf (rule13-14 total head f (itemAt f (row .0)))) ⌝ }
 {
-    if !good_location(table, row) {
+    if !good_method(table, row) {
         return 13;
     }
     if !lies_within(table, row, total, idat) {
-        return 14;
+        if has_lengths(table, row) {
+            return 14;
+        }
+        return 13;
     }
     if !has_bytes(table, row) {
         return 14;

@@ -17,7 +17,7 @@ ghost use Rattle.contents.specs.Ipma.{Named, associationsIn, markOf, associatio
 ghost use Rattle.contents.specs.Iprp.{anyBox, shown};
 ghost use Rattle.records.specs.Rows.{idsIn};
 ghost use Rattle.properties.specs.Told.{toldShown, ShownLeft};
-ghost use Rattle.properties.specs.Steps.{toldChecked, nextProperty, AddedIs, toldProperties, PropertiesLeft, AssociatedIs, spanWords, list-form, ListedIs, Above, NamedPutIs, toldNames, NamesLeft, levelOf, toldLevel, pairShown, PairLeft};
+ghost use Rattle.properties.specs.Steps.{toldChecked, nextProperty, AddedIs, toldProperties, PropertiesLeft, AssociatedIs, spanWords, list-form, ListedIs, Above, NamedPutIs, toldNames, NamesLeft, hintsIn, levelOf, toldLevel, pairShown, PairLeft};
 use boxes::Child;
 use boxes::Refusal;
 use contents::FullRead;
@@ -314,7 +314,22 @@ pub enum NamedPut {
     Refused(Refusal),
 }
 
-// One entry, into the table. The IDs before it are below `above`.
+// For each of 256 remainders the last row whose ID leaves it, 0 where none does. The entries of an `ipma` rise, the rows need not: this is where to look first.
+fn hints_of(table: &[u32], n: usize) -> [u32; 256]
+    requires { ⌜ (n ≤ 256) × (11280 ≤ length (now table)) ⌝ }
+    ensures { λ r. ⌜ r ≡ hintsIn (now (table .entry)) n ⌝ }
+{
+    let mut hints = [0u32; 256];
+    let mut k: usize = 0;
+    while k < n {
+        let id = table[Table::item(ItemRow(k))];
+        hints[(id % 256) as usize] = k as u32;
+        k += 1;
+    }
+    hints
+}
+
+// One entry, into the table. The IDs before it are below `above`; `hints` may say where its row is.
 fn put_named(
     s: &[u8],
     at: usize,
@@ -323,7 +338,7 @@ fn put_named(
     table: &mut [u32],
     n: usize,
     above: u64,
-    hope: ItemRow,
+    hints: &[u32],
     used: usize,
 ) -> NamedPut
     requires { ⌜ (at ≤ length (now s)) × ((f .word ≡ 1) ⊎ (f .word ≡ 2)) × (n ≤ 256) × (used ≤ 2048) × (11280 ≤ length (now table)) ⌝ }
@@ -338,6 +353,7 @@ fn put_named(
     if (id as u64) < above {
         return NamedPut::Refused(Refusal { number: 10, place });
     }
+    let hope = ItemRow(table::word(hints, (id % 256) as usize) as usize);
     let found = records::row_of(&*table, n, ItemId(id), hope);
     match found {
         FoundRow::Nothing => NamedPut::Refused(Refusal { number: 11, place }),
@@ -370,23 +386,21 @@ fn put_names(
     ensures { λ r. ⌜ r ≡ toldNames (whole (many (named-form (idsIn (now (table .entry)) n) (f .most) (f .version) (f .word)) count []) place (drop from (now (s .entry)))) ⌝ }
     ensures { λ _. ⌜ NamesLeft (whole (many (named-form (idsIn (now (table .entry)) n) (f .most) (f .version) (f .word)) count []) place (drop from (now (s .entry)))) n (now (table .entry)) (now (table .exit)) ⌝ }
 {
+    let hints = hints_of(&*table, n);
     let mut at = from;
     let mut used: usize = 0;
     let mut above: u64 = 0;
-    let mut hope: usize = 0;
     let mut i: usize = 0;
     while i < count {
-        let t = put_named(s, at, f, place, table, n, above, ItemRow(hope), used);
+        let t = put_named(s, at, f, place, table, n, above, &hints, used);
         match t {
             NamedPut::Refused(r) => {
                 return NamesRead::Refused(r);
             }
-            NamedPut::Is { end, k, id, row } => {
+            NamedPut::Is { end, k, id, row: _ } => {
                 at = end;
                 used += k;
                 above = (id as u64) + 1;
-                let r = row.0;
-                hope = r + 1;
                 i += 1;
             }
         }
@@ -395,13 +409,6 @@ fn put_names(
         return NamesRead::Refused(Refusal { number: 8, place });
     }
     NamesRead::Associations(used)
-}
-
-// The bytes of an association.
-fn word_bytes(flags: u32) -> usize
-    ensures { λ r. ⌜ r ≡ pick (eqb (flags % 2) 1) 2 1 ⌝ }
-{
-    if flags % 2 == 1 { 2 } else { 1 }
 }
 
 // The associations of the `ipma` at a place into a table with n items and `most` properties.
@@ -421,9 +428,17 @@ fn read_names(s: &[u8], place: u64, table: &mut [u32], n: usize, most: u32) -> N
             if 256 < count {
                 return NamesRead::Refused(Refusal { number: 9, place });
             }
+            if flags % 2 == 1 {
+                let f = Written {
+                    version,
+                    word: 2,
+                    most,
+                };
+                return put_names(s, 8, count as usize, f, place, table, n);
+            }
             let f = Written {
                 version,
-                word: word_bytes(flags),
+                word: 1,
                 most,
             };
             put_names(s, 8, count as usize, f, place, table, n)

@@ -111,14 +111,7 @@ fn read_last(
     match t {
         ReferencesRead::Refused(f) => FileRead::Refused(f),
         ReferencesRead::Targets(targets) => {
-            let all = Counts {
-                items: n,
-                properties: c.properties,
-                associations: c.associations,
-                targets,
-                extents: c.extents,
-            };
-            put_head(table, total, primary, all);
+            put_head(table, total, primary, Counts { targets, ..c });
             found_idat(spots, at)
         }
     }
@@ -143,13 +136,9 @@ fn read_iprp(
     let start = p.start;
     let body = p.body;
     let end = p.end;
-    let t = properties::read_shown(
-        &s[body..end],
-        (at + start) as u64,
-        (at + body) as u64,
-        table,
-        n,
-    );
+    let place = (at + start) as u64;
+    let base = (at + body) as u64;
+    let t = properties::read_shown(&s[body..end], place, base, table, n);
     match t {
         ShownRead::Refused(f) => FileRead::Refused(f),
         ShownRead::Shown {

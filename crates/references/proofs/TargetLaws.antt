@@ -4,7 +4,7 @@ use native.Mathlib.Omega.{arith}
 use mathlib.Core.Path.{_≡_, refl, sym, ap, _∙_, subst}
 use mathlib.Core.List.{List, [], _∷_, _++_}
 use mathlib.Core.Bool.{Bool, true, false}
-use lib.ListN.{length, set, drop, length-append}
+use lib.ListN.{length, drop, length-append}
 use lib.Seq.{sets, length-sets}
 use Rattle.fields.specs.Choice.{pick}
 use Rattle.fields.specs.Field.{beAt}
@@ -135,7 +135,7 @@ module _ (s : List ℕ) (from w k p n : ℕ) (keep : Bool) (used : ℕ) (t : Lis
         pub unlisted : FoundIs u n id Nothing → Tells u (targets.Refused (record { number = 11; place = p }))
         unlisted g = refuses 11 (rw next (target-unlisted (idsIn t n) w p s (k - (j + 1)) at (so .ts) inside (rw (← e) (found-no-member t u n so-ids id g))))
 
-        listed : (row : ItemRow) → FoundIs u n id (At row) → (v : List ℕ) → v ≡ sets u (7184 + used + j) (pick keep (id ∷ []) []) → So v (at + w) (j + 1)
+        pub listed : (row : ItemRow) → FoundIs u n id (At row) → (v : List ℕ) → v ≡ sets u (7184 + used + j) (pick keep (id ∷ []) []) → So v (at + w) (j + 1)
         listed row g v q =
             let c = so .count in
             record {
@@ -146,14 +146,6 @@ module _ (s : List ℕ) (from w k p n : ℕ) (keep : Bool) (used : ℕ) (t : Lis
               same = so .same ∙ rw (next, target-listed (idsIn t n) w p s (k - (j + 1)) at (so .ts) inside (rw (← e) (found-member t u n so-ids id row g)), e);
               stored = q ∙ ap (λ (l : List ℕ). sets l (7184 + used + j) (pick keep (id ∷ []) [])) (so .stored) ∙ kept-more keep t (7184 + used) j id (so .ts) c;
             }
-
-        pub listed-kept : (row : ItemRow) → FoundIs u n id (At row) → keep ≡ true → (v : List ℕ) → v ≡ set u (7184 + used + j) id → So v (at + w) (j + 1)
-        unfolding pick
-        listed-kept row g y v q = listed row g v (q ∙ rw y)
-
-        pub listed-passed : (row : ItemRow) → FoundIs u n id (At row) → keep ≡ false → (v : List ℕ) → v ≡ u → So v (at + w) (j + 1)
-        unfolding pick
-        listed-passed row g y v q = listed row g v (q ∙ rw y)
 
     -- all are read
     module _ (all : k ≤ j) where

@@ -7,6 +7,7 @@ ghost use Prim.Native.Nat.{ℕ, _+_, _*_, _≤_, _<_};
 ghost use lib.ListN.{length, getD, drop};
 ghost use lib.Seq.{sets};
 ghost use lib.Dec.{eqb};
+ghost use Rattle.fields.specs.Choice.{pick};
 ghost use Rattle.fields.specs.Field.{beAt};
 ghost use Rattle.fields.specs.Lists.{member};
 ghost use Rattle.boxes.specs.Types.{dimg};
@@ -27,6 +28,16 @@ use table::Table;
 pub enum TargetsPut {
     Done,
     Refused(Refusal),
+}
+
+// Target j of a reference, which is kept behind the `used` targets before it, or not at all.
+fn put_target(table: &mut [u32], keep: bool, used: usize, j: usize, id: u32)
+    requires { ⌜ (11280 ≤ length (now table)) × (keep ≡ true → used + j < 2048) ⌝ }
+    ensures { λ _. ⌜ now (table .exit) ≡ sets (now (table .entry)) (7184 + used + j) (pick keep (id ∷ []) []) ⌝ }
+{
+    if keep {
+        table[Table::TARGETS + used + j] = id;
+    }
 }
 
 // k targets of w bytes each from a place on: each must be listed. Those of a `dimg` become the targets from a number on.
@@ -55,15 +66,10 @@ fn put_targets(
         let id = fields::be_id(s, at, w);
         let f = records::row_of(&*table, n, ItemId(id), ItemRow(hope));
         match f {
-            FoundRow::Nothing => {
-                return TargetsPut::Refused(Refusal { number: 11, place });
-            }
+            FoundRow::Nothing => return TargetsPut::Refused(Refusal { number: 11, place }),
             FoundRow::At(row) => {
-                if keep {
-                    table[Table::TARGETS + used + j] = id;
-                }
-                let r = row.0;
-                hope = r + 1;
+                put_target(table, keep, used, j, id);
+                hope = row.0 + 1;
                 at += w;
                 j += 1;
             }
@@ -223,27 +229,19 @@ fn put_references(
             Child::Whole { kind, body, end } => {
                 let r = put_reference(&s[body..end], is_dimg(kind), w, here, table, n, used);
                 match r {
-                    ReferencesRead::Refused(f) => {
-                        return ReferencesRead::Refused(f);
-                    }
+                    ReferencesRead::Refused(f) => return ReferencesRead::Refused(f),
                     ReferencesRead::Targets(k) => {
                         used = k;
                         at = end;
                     }
                 }
             }
-            Child::Bad => {
-                return ReferencesRead::Refused(Refusal {
-                    number: 3,
-                    place: here,
-                });
-            }
-            Child::Spare => {
-                return ReferencesRead::Refused(Refusal { number: 3, place });
-            }
-            Child::End => {
-                return ReferencesRead::Targets(used);
-            }
+            Child::Bad => return ReferencesRead::Refused(Refusal {
+                number: 3,
+                place: here,
+            }),
+            Child::Spare => return ReferencesRead::Refused(Refusal { number: 3, place }),
+            Child::End => return ReferencesRead::Targets(used),
         }
     }
 }

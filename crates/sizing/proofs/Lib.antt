@@ -1,2 +1,5 @@
 pub mod FillLaws
+pub mod FaultLaws
+pub mod OrderLaws
+pub mod StandLaws
 pub mod SizesLaws

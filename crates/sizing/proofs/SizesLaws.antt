@@ -1,6 +1,6 @@
 -- Rule 20 for one picture, over a table that has sizes: the sizes of a row, those of a picture's inputs, and what its recipe makes of them. Assumes nothing.
---   madeBy s p x    what rule 20 says of a picture whose recipe is read as x
---   Feeds x is      the inputs `is` of a recipe that is read as x, where a first one is asked for
+--   madeBy s p x    what rule 20 says of a picture whose derivation is read as x
+--   Feeds x is      the inputs `is` of a derivation that is read as x, where a first one is asked for
 use Prim.Native.Nat.{ℕ, _+_, _*_, _<_, _≤_}
 use native.Mathlib.Omega.{arith}
 use mathlib.Core.Path.{_≡_, refl, sym, ap, subst, _∙_}
@@ -8,7 +8,8 @@ use mathlib.Core.List.{List}
 use mathlib.Core.Bool.{Bool, true, false, _&&_}
 use lib.ListN.{length, getD, drop, length-map, drop-of-length-le}
 use lib.Dec.{leb}
-use Rattle.boxes.specs.Types.{image}
+use Rattle.boxes.specs.Answer.{ok}
+use Rattle.boxes.specs.Types.{derived, image}
 use Rattle.contents.specs.File.{File}
 use Rattle.pictures.specs.declared.Size.{Size}
 use Rattle.pictures.specs.Turn.{size}
@@ -16,14 +17,17 @@ use Rattle.pictures.specs.Recipe.{Recipe, Coded, Copy, Opaque, Tiles, Layers, G
 use Rattle.pictures.specs.Scene.{Picture, Scene, pictureAt, outputOf, sameSize, goodSize, firstInput, allSize, madeUp, goodSizes}
 use Rattle.pictures.specs.GoodScene.{Shaped}
 use Rattle.rules.specs.Joined.{targetsOf, rowOf, itemAt}
-use Rattle.rules.specs.Derivations.{recipeOf, sceneOf}
+use Rattle.rules.specs.Derivations.{sceneOf}
 use Rattle.rules.proofs.SceneLaws.{inputs-at, recipe-ok, inputs-fed}
 use Rattle.rules.specs.Places.{Places}
 use Rattle.views.specs.View.{TableOf, SizesAre, recordWord, idOf}
 use Rattle.views.proofs.LookupLaws.{row-listed}
-use Rattle.derived.specs.Told.{toldBy, toldRecipe}
-use Rattle.derived.specs.declared.RecipeRead.{RecipeRead}
-use Rattle.derived.specs.declared.RecipeRead.the-variants as read
+use Rattle.derived.specs.Told.{derivationFor, toldDerivation}
+use Rattle.derived.specs.declared.Derivation.{Derivation}
+use Rattle.derived.specs.declared.Derivation.the-variants as made
+use Rattle.derived.proofs.RecipeLaws.{plain-recipe, derived-recipe}
+use Rattle.fields.specs.Choice.{pick}
+use Rattle.fields.proofs.FieldLaws.{both}
 use Rattle.fields.proofs.ListLaws.{left-from, map-at}
 use Rattle.sizing.specs.Drawn.{Drawn, tilesFit}
 
@@ -79,33 +83,34 @@ module _ (s : Scene) (p : Picture) (g : Grid) (tile : Size) (e : tile ≡ firstI
       unfolding tilesFit
       tiles-over q z d t h = rw (← e, a, b, q, ← d) h
 
--- madeUp, by the recipe that is read
-abbrev pub madeBy : Scene → Picture → RecipeRead → Bool
-madeBy s p read.Coded = true
-madeBy s p read.Copy = sameSize (p .declared) (firstInput s p)
-madeBy s p read.Opaque = true
-madeBy s p (read.Tiles down across wide high) = tilesFit s p (record { rows = down; columns = across; wide = wide; high = high })
-madeBy s p (read.Layers wide high) = sameSize (p .declared) (size wide high)
-madeBy s p read.Wrong = true
+-- madeUp, by the derivation that is read
+abbrev pub madeBy : Scene → Picture → Derivation → Bool
+madeBy s p made.Copy = sameSize (p .declared) (firstInput s p)
+madeBy s p (made.Tiles down across wide high) = tilesFit s p (record { rows = down; columns = across; wide = wide; high = high })
+madeBy s p (made.Layers wide high) = sameSize (p .declared) (size wide high)
+madeBy s p made.Wrong = true
 
-made-told : (s : Scene) (p : Picture) (r : Recipe) → madeUp s p r ≡ madeBy s p (toldBy r)
-unfolding madeUp toldBy tilesFit
+made-told : (s : Scene) (p : Picture) (r : Recipe) → madeUp s p r ≡ madeBy s p (toldDerivation (ok r))
+unfolding madeUp toldDerivation tilesFit
 made-told s p Coded = refl
 made-told s p Copy = refl
 made-told s p Opaque = refl
 made-told s p (Tiles g) = refl
 made-told s p (Layers o) = refl
 
-abbrev pub Feeds : RecipeRead → List ℕ → Type 0
-Feeds read.Coded is = Unit {0}
-Feeds read.Copy is = 0 < length is
-Feeds read.Opaque is = Unit {0}
-Feeds (read.Tiles down across wide high) is = 0 < length is
-Feeds (read.Layers wide high) is = Unit {0}
-Feeds read.Wrong is = Unit {0}
+-- madeUp of a recipe by a type that is not derived
+made-underived : (s : Scene) (p : Picture) (t : Bool) → true ≡ madeUp s p (pick t Coded Opaque)
+unfolding madeUp
+made-underived s p t = both (λ (r : Recipe). true ≡ madeUp s p r) t Coded Opaque (λ q. refl) (λ q. refl)
 
-shaped-feeds : (r : Recipe) (is : List ℕ) → Shaped r is → Feeds (toldBy r) is
-unfolding toldBy
+abbrev pub Feeds : Derivation → List ℕ → Type 0
+Feeds made.Copy is = 0 < length is
+Feeds (made.Tiles down across wide high) is = 0 < length is
+Feeds (made.Layers wide high) is = Unit {0}
+Feeds made.Wrong is = Unit {0}
+
+shaped-feeds : (r : Recipe) (is : List ℕ) → Shaped r is → Feeds (toldDerivation (ok r)) is
+unfolding toldDerivation
 shaped-feeds Coded is h = tt
 shaped-feeds Copy is h = omega arith
 shaped-feeds Opaque is h = tt
@@ -144,31 +149,36 @@ module _ {t rows head : List ℕ} {total : ℕ} {f : File} (d : Drawn t rows hea
   pub input-size : (j : ℕ) → j < length targets → (k : ℕ) → k ≡ rowOf (getD targets j 0) (f .items) → (z : Size) → ((s : Scene) → SizesAre t s → k < length s → z ≡ outputOf (pictureAt s k)) → z ≡ outputOf (pictureAt s (getD (p .inputs) j 0))
   input-size = scene-input-size total head f r i (d .view) (d .sizes)
 
-  -- the recipe is read as x
-  module _ (h : r < length (f .items)) (x : RecipeRead) (e : x ≡ toldRecipe (recipeOf total head f (itemAt f r))) where
-    recipe-read : toldBy (p .recipe) ≡ x
-    unfolding toldRecipe
-    recipe-read = let k = recipe-ok total head f r i (d .fed r h) in ap toldBy (k .2) ∙ sym (e ∙ ap toldRecipe (k .1))
+  module _ (h : r < length (f .items)) where
+    pub made-plain : derived (itemAt f r .type) ≡ false → true ≡ madeUp s p (p .recipe)
+    made-plain n =
+        let k = recipe-ok total head f r i (d .fed r h) in
+        made-underived s p _ ∙ ap (madeUp s p) (plain-recipe total head f (itemAt f r) n (k .0) (k .1) ∙ sym (k .2))
 
-    pub made-read : (y : RecipeRead) → x ≡ y → madeBy s p y ≡ madeUp s p (p .recipe)
-    made-read y q = sym (made-told s p (p .recipe) ∙ ap (madeBy s p) (recipe-read ∙ q))
+    -- the item is derived, and its derivation is read as x
+    module _ (kind : derived (itemAt f r .type) ≡ true) (x : Derivation) (e : x ≡ toldDerivation (derivationFor total head f (itemAt f r))) where
+      recipe-read : toldDerivation (ok (p .recipe)) ≡ x
+      recipe-read = let k = recipe-ok total head f r i (d .fed r h) in sym (e ∙ ap toldDerivation (derived-recipe total head f (itemAt f r) kind (k .0) (k .1) ∙ ap ok (sym (k .2))))
 
-    fed-read : (y : RecipeRead) → x ≡ y → Feeds y targets
-    fed-read y q = subst (λ (y : RecipeRead). Feeds y targets) (recipe-read ∙ q) (shaped-feeds (p .recipe) targets (inputs-fed total head f r i (d .fed r h) .0))
+      pub made-read : (y : Derivation) → x ≡ y → madeBy s p y ≡ madeUp s p (p .recipe)
+      made-read y q = sym (made-told s p (p .recipe) ∙ ap (madeBy s p) (recipe-read ∙ q))
 
-    pub made-copy : x ≡ read.Copy → (k : ℕ) → (0 < length targets → k ≡ rowOf (getD targets 0 0) (f .items)) → (a z : Size) → a ≡ p .declared → ((s : Scene) → SizesAre t s → k < length s → z ≡ outputOf (pictureAt s k)) → (b : Bool) → b ≡ sameSize a z
-        → b ≡ madeUp s p (p .recipe)
-    made-copy q k g a z ea o b eb =
-        let l = fed-read read.Copy q in
-        eb ∙ ap (λ (y : Size). sameSize y z) ea ∙ ap (sameSize (p .declared)) (input-size 0 l k (g l) z o) ∙ made-read read.Copy q
+      fed-read : (y : Derivation) → x ≡ y → Feeds y targets
+      fed-read y q = subst (λ (y : Derivation). Feeds y targets) (recipe-read ∙ q) (shaped-feeds (p .recipe) targets (inputs-fed total head f r i (d .fed r h) .0))
 
-    pub made-tiles : (down across wide high : ℕ) → x ≡ read.Tiles down across wide high → (b : Bool) → (0 < length (p .inputs) → b ≡ tilesFit s p (record { rows = down; columns = across; wide = wide; high = high })) → b ≡ madeUp s p (p .recipe)
-    made-tiles down across wide high q b g =
-        let l = fed-read (read.Tiles down across wide high) q in
-        g (omega (arith, inputs-many)) ∙ made-read (read.Tiles down across wide high) q
+      pub made-copy : x ≡ made.Copy → (k : ℕ) → (0 < length targets → k ≡ rowOf (getD targets 0 0) (f .items)) → (a z : Size) → a ≡ p .declared → ((s : Scene) → SizesAre t s → k < length s → z ≡ outputOf (pictureAt s k)) → (b : Bool) → b ≡ sameSize a z
+          → b ≡ madeUp s p (p .recipe)
+      made-copy q k g a z ea o b eb =
+          let l = fed-read made.Copy q in
+          eb ∙ ap (λ (y : Size). sameSize y z) ea ∙ ap (sameSize (p .declared)) (input-size 0 l k (g l) z o) ∙ made-read made.Copy q
 
-    pub made-layers : (wide high : ℕ) → x ≡ read.Layers wide high → (a : Size) → a ≡ p .declared → (b : Bool) → b ≡ sameSize a (size wide high) → b ≡ madeUp s p (p .recipe)
-    made-layers wide high q a ea b eb = eb ∙ ap (λ (y : Size). sameSize y (size wide high)) ea ∙ made-read (read.Layers wide high) q
+      pub made-tiles : (down across wide high : ℕ) → x ≡ made.Tiles down across wide high → (b : Bool) → (0 < length (p .inputs) → b ≡ tilesFit s p (record { rows = down; columns = across; wide = wide; high = high })) → b ≡ madeUp s p (p .recipe)
+      made-tiles down across wide high q b g =
+          let l = fed-read (made.Tiles down across wide high) q in
+          g (omega (arith, inputs-many)) ∙ made-read (made.Tiles down across wide high) q
+
+      pub made-layers : (wide high : ℕ) → x ≡ made.Layers wide high → (a : Size) → a ≡ p .declared → (b : Bool) → b ≡ sameSize a (size wide high) → b ≡ madeUp s p (p .recipe)
+      made-layers wide high q a ea b eb = eb ∙ ap (λ (y : Size). sameSize y (size wide high)) ea ∙ made-read (made.Layers wide high) q
 
 -- goodSizes, test by test
 module _ (s : Scene) (p : Picture) where

@@ -3,11 +3,12 @@ ghost use mathlib.Core.Path.{_≡_};
 ghost use mathlib.Core.List.{List, [], _∷_, _++_};
 ghost use Prim.Native.Nat.{ℕ, _+_, _*_, _≤_, _<_};
 ghost use mathlib.Core.Bool.{true, _&&_};
-ghost use lib.ListN.{length, getD};
+ghost use lib.ListN.{length, getD, drop};
 ghost use lib.Seq.{sets};
 ghost use lib.Dec.{leb};
 ghost use Rattle.boxes.specs.Answer.{ok};
 ghost use Rattle.boxes.specs.Types.{image};
+ghost use Rattle.contents.specs.Iinf.{Item};
 ghost use Rattle.contents.specs.File.{File, readFile};
 ghost use Rattle.pictures.specs.Scene.{Scene, pictureAt, outputOf, sameSize, goodSide, goodSize, firstInput, allSize, covered, madeUp, goodSizes};
 ghost use Rattle.pictures.specs.Turn as Turns;
@@ -16,11 +17,16 @@ ghost use Rattle.pictures.specs.Depth.{depth};
 ghost use Rattle.rules.specs.Joined.{itemAt};
 ghost use Rattle.rules.specs.Places.{Places, placesIn};
 ghost use Rattle.rules.specs.Derivations.{sceneOf};
+ghost use Rattle.rules.specs.Rules.{inOrder, rule15-16};
 ghost use Rattle.rules.specs.Words.{headWords, wordsOf};
 ghost use Rattle.records.specs.Raw.{rawOf};
-ghost use Rattle.views.specs.View.{TableOf, SizesAre, AllPlaced};
+ghost use Rattle.views.specs.View.{TableOf, SizesAre, AllPlaced, recordWord};
+ghost use Rattle.views.specs.Told.{faultOf};
 ghost use Rattle.sizing.specs.Drawn.{sizesFor, sizesIn, Drawn, tilesFit};
-use derived::RecipeRead;
+ghost use Rattle.sizing.specs.Told.{toldFilled};
+use boxes::Refusal;
+use declared::SizesRead;
+use derived::Derivation;
 use pictures::Size;
 use table::ItemRow;
 use table::Table;
@@ -38,37 +44,62 @@ fn put_sizes(table: &mut [u32], row: ItemRow, s: Size, o: Size, depth: u32)
     table[at + 4] = depth;
 }
 
-// The sizes and depth of the item in a row; an opaque one has none.
-fn fill_row(head: &[u8], table: &mut [u32], row: ItemRow, depth: u32)
+// The sizes and depth of the item in a row into its record; an opaque one has none. Where 15 or 16 refuses it, the number.
+fn fill_row(head: &[u8], table: &mut [u32], row: ItemRow, depth: u32) -> u32
     requires { ⌜ (11280 ≤ length (now table)) × (row .0 < 256) ⌝ }
-    ensures { λ _. ⌜ ((pl : Places) (f : File) → TableOf (now (table .entry)) (now (head .entry)) pl f → row .0 < length (f .items) → now (table .exit) ≡ sets (now (table .entry)) (26 + 16 * row .0) (sizesIn f (row .0) depth)) ⌝ }
+    ensures { λ r. ⌜ ((pl : Places) (f : File) → TableOf (now (table .entry)) (now (head .entry)) pl f → row .0 < length (f .items) → recordWord (now (table .entry)) (row .0) 12 ≡ itemAt f (row .0) .protection → r ≡ faultOf (rule15-16 f (itemAt f (row .0)))) ⌝ }
+    ensures { λ r. ⌜ ((pl : Places) (f : File) → TableOf (now (table .entry)) (now (head .entry)) pl f → row .0 < length (f .items) → r ≡ 0 → now (table .exit) ≡ sets (now (table .entry)) (26 + 16 * row .0) (sizesIn f (row .0) depth)) ⌝ }
+    ensures { λ r. ⌜ ((r ≡ 0 → ⊥) → now (table .exit) ≡ now (table .entry)) ⌝ }
+    ensures { λ _. ⌜ drop 11280 (now (table .exit)) ≡ drop 11280 (now (table .entry)) ⌝ }
 {
-    if views::is_image(views::type_of(&*table, row)) {
-        let s = declared::declared_size(head, &*table, row);
-        let o = declared::output_size(head, &*table, row, s);
-        put_sizes(table, row, s, o, depth);
-        return;
+    if !views::is_image(views::type_of(&*table, row)) {
+        let none = Size { wide: 0, high: 0 };
+        put_sizes(table, row, none, none, 0);
+        return 0;
     }
-    let none = Size { wide: 0, high: 0 };
-    put_sizes(table, row, none, none, 0);
+    if views::record_word(&*table, row, 12) != 0 {
+        return 15;
+    }
+    let s = declared::read_sizes(head, &*table, row);
+    match s {
+        SizesRead::Wrong => declared::properties_fault(&*table, row),
+        SizesRead::Are { declared, output } => {
+            put_sizes(table, row, declared, output, depth);
+            0
+        }
+    }
 }
 
-// The sizes and depths of all items.
-pub fn fill_sizes(head: &[u8], table: &mut [u32], depths: &[u32])
-    ensures { λ _. ⌜ ((total : ℕ) (f : File) (x : List ℕ) → total < 18446744073709551616 → readFile total (now (head .entry)) ≡ ok f → AllPlaced total (now (head .entry)) f → now (table .entry) ≡ rawOf (headWords total f) (placesIn total (now (head .entry))) f ++ x → ((r : ℕ) → r < length (f .items) → getD (now (depths .entry)) r 0 ≡ depth (sceneOf total (now (head .entry)) f) r) → now (table .exit) ≡ wordsOf total (now (head .entry)) f ++ x) ⌝ }
+pub enum Filled {
+    All,
+    Refused(Refusal),
+}
+
+// The sizes and depths of all items, or the first that 15 or 16 refuses.
+pub fn fill_sizes(head: &[u8], table: &mut [u32], depths: &[u32]) -> Filled
+    ensures { λ r. ⌜ ((total : ℕ) (f : File) (x : List ℕ) → total < 18446744073709551616 → readFile total (now (head .entry)) ≡ ok f → now (table .entry) ≡ rawOf (headWords total f) (placesIn total (now (head .entry))) f ++ x → r ≡ toldFilled (inOrder (λ (k : ℕ) (i : Item). rule15-16 f i) 0 (f .items))) ⌝ }
+    ensures { λ r. ⌜ ((total : ℕ) (f : File) (x : List ℕ) → total < 18446744073709551616 → readFile total (now (head .entry)) ≡ ok f → AllPlaced total (now (head .entry)) f → now (table .entry) ≡ rawOf (headWords total f) (placesIn total (now (head .entry))) f ++ x → ((r : ℕ) → r < length (f .items) → getD (now (depths .entry)) r 0 ≡ depth (sceneOf total (now (head .entry)) f) r) → r ≡ Filled.All → now (table .exit) ≡ wordsOf total (now (head .entry)) f ++ x) ⌝ }
+    ensures { λ _. ⌜ drop 11280 (now (table .exit)) ≡ drop 11280 (now (table .entry)) ⌝ }
 {
     if table.len() < Table::WORDS {
-        return;
+        return Filled::All;
     }
     let n = views::item_count(&*table);
     if 256 < n {
-        return;
+        return Filled::All;
     }
     let mut k: usize = 0;
     while k < n {
-        fill_row(head, table, ItemRow(k), table::word(depths, k));
+        let number = fill_row(head, table, ItemRow(k), table::word(depths, k));
+        if number != 0 {
+            return Filled::Refused(Refusal {
+                number,
+                place: views::id_of(&*table, ItemRow(k)).0 as u64,
+            });
+        }
         k += 1;
     }
+    Filled::All
 }
 
 // The size that an item declares, once the table has it.
@@ -169,22 +200,23 @@ fn tiles_fit(
 fn is_made_up(head: &[u8], table: &[u32], rows: &[u32], row: ItemRow) -> bool
     ensures { λ r. ⌜ ((total : ℕ) (f : File) → Drawn (now (table .entry)) (now (rows .entry)) (now (head .entry)) total f → row .0 < length (f .items) → image (itemAt f (row .0) .type) ≡ true → r ≡ madeUp (sceneOf total (now (head .entry)) f) (pictureAt (sceneOf total (now (head .entry)) f) (row .0)) (pictureAt (sceneOf total (now (head .entry)) f) (row .0) .recipe)) ⌝ }
 {
-    let r = derived::recipe_of(head, table, rows, row);
-    match r {
-        RecipeRead::Coded => true,
-        RecipeRead::Opaque => true,
-        RecipeRead::Wrong => true,
-        RecipeRead::Copy => is_same(
+    if !views::is_derived(views::type_of(table, row)) {
+        return true;
+    }
+    let d = derived::derivation_of(head, table, row);
+    match d {
+        Derivation::Wrong => true,
+        Derivation::Copy => is_same(
             declared_in(table, row),
             output_in(table, derived::input_of(table, rows, row, 0)),
         ),
-        RecipeRead::Tiles {
+        Derivation::Tiles {
             rows: down,
             columns,
             wide,
             high,
         } => tiles_fit(table, rows, row, down, columns, Size { wide, high }),
-        RecipeRead::Layers { wide, high } => is_same(declared_in(table, row), Size { wide, high }),
+        Derivation::Layers { wide, high } => is_same(declared_in(table, row), Size { wide, high }),
     }
 }
 

@@ -29,6 +29,7 @@ use pictures::SideFound;
 use pictures::Size;
 use records::FoundRow;
 use table::ItemRow;
+use table::Table;
 
 // The point that p comes from through an item's transforms from association j on, the last one undone first. The picture has the size s before them.
 pub fn undone(head: &[u8], table: &[u32], row: ItemRow, j: usize, s: Size, p: Point) -> Point
@@ -48,10 +49,10 @@ pub fn undone(head: &[u8], table: &[u32], row: ItemRow, j: usize, s: Size, p: Po
 }
 
 // The row of an item's input with a number from 0.
-fn input_row(table: &[u32], row: ItemRow, j: usize) -> ItemRow
+fn input_row(table: &[u32], row: ItemRow, j: usize, hope: ItemRow) -> ItemRow
     ensures { λ r. ⌜ ((head : List ℕ) (pl : Places) (f : File) → TableOf (now (table .entry)) head pl f → row .0 < length (f .items) → j < length (targetsOf f (idOf f (row .0))) → r .0 ≡ rowOf (getD (targetsOf f (idOf f (row .0))) j 0) (f .items)) ⌝ }
 {
-    let found = views::row_named(table, views::target_of(table, row, j), row);
+    let found = views::row_named(table, views::target_of(table, row, j), hope);
     match found {
         FoundRow::At(r) => r,
         FoundRow::Nothing => ItemRow(0),
@@ -70,7 +71,7 @@ fn copied_at(table: &[u32], row: ItemRow, p: Point) -> Source
     ensures { λ r. ⌜ ((total : ℕ) (head : List ℕ) (f : File) → Shown (now (table .entry)) head total f → row .0 < length (f .items) → itemAt f (row .0) .type ≡ iden → r ≡ toldSource (sourceOf (sceneOf total head f) (row .0) p)) ⌝ }
 {
     Source::Input {
-        row: input_row(table, row, 0),
+        row: input_row(table, row, 0, row),
         at: p,
     }
 }
@@ -79,7 +80,7 @@ fn copied_at(table: &[u32], row: ItemRow, p: Point) -> Source
 fn tiled_at(table: &[u32], row: ItemRow, columns: u32, p: Point) -> Source
     ensures { λ r. ⌜ ((total : ℕ) (head : List ℕ) (f : File) → Shown (now (table .entry)) head total f → row .0 < length (f .items) → (g : Grid) → pictureAt (sceneOf total head f) (row .0) .recipe ≡ Tiles g → g .columns ≡ columns → Inside (pictureAt (sceneOf total head f) (row .0) .declared) p → r ≡ toldSource (sourceOf (sceneOf total head f) (row .0) p)) ⌝ }
 {
-    let tile = sizing::output_in(table, input_row(table, row, 0));
+    let tile = sizing::output_in(table, input_row(table, row, 0, row));
     let w = tile.wide;
     let h = tile.high;
     if w == 0 {
@@ -92,7 +93,7 @@ fn tiled_at(table: &[u32], row: ItemRow, columns: u32, p: Point) -> Source
     let y = p.y;
     let j = ((y / h) as usize) * (columns as usize) + ((x / w) as usize);
     Source::Input {
-        row: input_row(table, row, j),
+        row: input_row(table, row, j, row),
         at: Point { x: x % w, y: y % h },
     }
 }
@@ -108,13 +109,15 @@ fn covered_at(b: &[u8], at: usize, bytes: usize, s: Size, p: Point) -> Covered
     ensures { λ r. ⌜ r ≡ toldCovered (record { right = signed bytes (beAt (now (b .entry)) at bytes); down = signed bytes (beAt (now (b .entry)) (at + bytes) bytes) }) s p ⌝ }
 {
     let x = pictures::side_of(fields::be_id(b, at, bytes), bytes, p.x, s.wide);
-    let y = pictures::side_of(fields::be_id(b, at + bytes, bytes), bytes, p.y, s.high);
     match x {
         SideFound::Off => Covered::Off,
-        SideFound::Along(ax) => match y {
-            SideFound::Off => Covered::Off,
-            SideFound::Along(ay) => Covered::At(Point { x: ax, y: ay }),
-        },
+        SideFound::Along(ax) => {
+            let y = pictures::side_of(fields::be_id(b, at + bytes, bytes), bytes, p.y, s.high);
+            match y {
+                SideFound::Off => Covered::Off,
+                SideFound::Along(ay) => Covered::At(Point { x: ax, y: ay }),
+            }
+        }
     }
 }
 
@@ -123,10 +126,15 @@ fn topmost(table: &[u32], row: ItemRow, b: &[u8], bytes: usize, n: usize, p: Poi
     requires { ⌜ ((bytes ≡ 2) ⊎ (bytes ≡ 4)) × (n ≤ 2048) × (length (now b) ≡ 10 + 2 * bytes + 2 * bytes * n) × (bytes ≡ fieldBytes (beAt (now b) 1 1)) ⌝ }
     ensures { λ r. ⌜ ((total : ℕ) (head : List ℕ) (f : File) → Shown (now (table .entry)) head total f → row .0 < length (f .items) → image (itemAt f (row .0) .type) ≡ true → (o : Overlay) → whole (iovl-form n) 0 (now (b .entry)) ≡ ok o → n ≡ length (targetsOf f (idOf f (row .0))) → r ≡ toldSource (layerAt (sceneOf total head f) (o .offsets) (pictureAt (sceneOf total head f) (row .0) .inputs) p blank)) ⌝ }
 {
+    if table.len() < Table::WORDS {
+        return Source::Blank;
+    }
+    let mut hope = row;
     let mut k = n;
     while 0 < k {
         k -= 1;
-        let input = input_row(table, row, k);
+        let input = input_row(table, row, k, hope);
+        hope = input;
         let at = 10 + 2 * bytes + 2 * bytes * k;
         let c = covered_at(b, at, bytes, sizing::output_in(table, input), p);
         match c {

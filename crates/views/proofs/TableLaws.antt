@@ -60,8 +60,8 @@ module _ {t head : List ℕ} {pl : Places} {f : File} (v : TableOf t head pl f) 
       target-read w q = q ∙ ap (λ (a : ℕ). getD t (7184 + (a + j)) 0) (e row-small) ∙ v .target r j h l
 
     module _ (j first : ℕ) (l : j < length (locationOf f (idOf f r) .extents)) (e : r < 256 → first ≡ recordWord t r 7) where
-      pub extent-inside : (first < 512) × (j < 512)
-      extent-inside = let q = e row-small in let k = v .extent-room r h in (omega arith, omega arith)
+      pub extent-inside : first + j < 512
+      extent-inside = let q = e row-small in let k = v .extent-room r h in omega arith
 
       pub extent-read : (size offset : ℕ) → size ≡ wide t (9232 + 4 * (first + j) + 2) → offset ≡ wide t (9232 + 4 * (first + j))
           → (size ≡ getD (locationOf f (idOf f r) .extents) j noExtent .size)

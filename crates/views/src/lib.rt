@@ -115,9 +115,10 @@ pub fn extent_of(table: &[u32], row: ItemRow, j: usize) -> Extent
     ensures { λ r. ⌜ ((head : List ℕ) (pl : Places) (f : File) → TableOf (now (table .entry)) head pl f → row .0 < length (f .items) → j < length (locationOf f (idOf f (row .0)) .extents) → (r .size ≡ getD (locationOf f (idOf f (row .0)) .extents) j noExtent .size) × (r .offset ≡ capped (fileOffset pl (locationOf f (idOf f (row .0))) (getD (locationOf f (idOf f (row .0)) .extents) j noExtent)))) ⌝ }
 {
     let first = record_word(table, row, 7) as usize;
-    if first < 512 {
-        if j < 512 {
-            let k = 9232 + 4 * (first + j);
+    if j < 512 {
+        let e = first + j;
+        if e < 512 {
+            let k = 9232 + 4 * e;
             return Extent {
                 offset: wide(table, k),
                 size: wide(table, k + 2),

@@ -24,7 +24,7 @@ row-in-sweep-requires : tie.Need-row-in-sweep-requires Inv-loop μ-loop
 row-in-sweep-requires c κs = c .loop-test .taken
 
 deepen-row-requires : tie.Need-deepen-row-requires Inv-loop μ-loop
-deepen-row-requires c κs = (omega (arith, c .before .row-in-sweep .ensures .1), omega (arith, c .before .row-in-sweep .ensures .1, c .before .before .before .loop .inv .1, c .before .before .before .before .before .before .before .pre .1), c .before .before .before .loop .inv .2 .low)
+deepen-row-requires c κs = (omega (arith, c .before .row-in-sweep .ensures .1), omega (arith, c .before .row-in-sweep .ensures .1, c .before .before .before .loop .inv .1, c .before .before .before .before .before .before .before .pre .1), c .before .before .before .loop .inv .2 .low, c .before .before .before .before .before .before .before .pre .3)
 
 loop-again : tie.Need-loop-again Inv-loop μ-loop
 loop-again c =

@@ -17,21 +17,21 @@ abbrev μ-loop : tie.MeasureT-loop
 μ-loop table rows depths r k first deepest₀ j₀ deepest j = k - j
 
 add-d : tie.Need-add-d Inv-loop μ-loop
-add-d c = omega (arith, c .word4 .ensures, c .before .before .before .before .before .before .before .before .before .pre .1 (c .before .word3 .result))
+add-d c = omega (arith, c .word2 .ensures, c .before .before .before .before .before .before .before .before .before .pre .1 (c .before .word .result))
 
 loop-again : tie.Need-loop-again Inv-loop μ-loop
 loop-again c =
     let a = c .before .before .before .before .before .before .before .before .before .before .args in
     let q = c .before .before .before .before .loop in
-    let e = deepest-more (at (a .depths .now)) (λ i. getD (a .rows .now) (c .before .before .before .before .before .word2 .result + i) 0) (q .j) (q .deepest) (c .before .before .word3 .result) (c .before .word4 .result) (q .inv .1) (c .before .before .word3 .ensures) (c .before .word4 .ensures) in
+    let e = deepest-more (at (a .depths .now)) (λ i. getD (a .rows .now) (c .before .before .before .before .before .held2 .result + i) 0) (q .j) (q .deepest) (c .before .before .word .result) (c .before .word2 .result) (q .inv .1) (c .before .before .word .ensures) (c .before .word2 .ensures) in
     (omega arith, ⊎-elim (λ w. omega (arith, e, w .0 .taken, w .1)) (λ w. omega (arith, e, w .0 .left, w .1)) (c .if1 .came))
 
 returns : tie.Need-returns Inv-loop μ-loop
 returns c =
     let a = c .before .before .before .before .before .before .before .args in
     let q = c .before .loop in
-    let e : q .j ≡ c .before .before .before .word .result = omega arith in
-    next-depth (a .table .now) (a .rows .now) (at (a .depths .now)) (a .row .0) (q .j) (c .before .before .word2 .result) (q .deepest) (e ∙ c .before .before .before .word .ensures) (c .before .before .word2 .ensures) (q .inv .1)
+    let e : q .j ≡ c .before .before .before .held .result = omega arith in
+    next-depth (a .table .now) (a .rows .now) (at (a .depths .now)) (a .row .0) (q .j) (c .before .before .held2 .result) (q .deepest) (e ∙ c .before .before .before .held .ensures) (c .before .before .held2 .ensures) (q .inv .1)
 
 pub depth-by-spec : {M : Type 1} → statement M
 depth-by-spec =

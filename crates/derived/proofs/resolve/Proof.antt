@@ -19,7 +19,10 @@ abbrev μ-loop : tie.MeasureT-loop
 μ-loop table rows₀ n row₀ k₀ rows row k = n - k
 
 returns : tie.Need-returns Inv-loop μ-loop
-returns c = λ head pl f v. absurd (omega (arith, targets-few v _ (c .before .word .ensures)))
+returns c = λ head pl f v. absurd (omega (arith, v .enough, c .if1 .taken))
+
+returns-2 : tie.Need-returns-2 Inv-loop μ-loop
+returns-2 c = λ head pl f v. absurd (omega (arith, targets-few v _ (c .before .word .ensures)))
 
 loop-holds : tie.Need-loop-holds Inv-loop μ-loop
 loop-holds c = (omega arith, refl, omega arith, λ head pl f v i h. absurd (omega arith))
@@ -31,13 +34,13 @@ loop-again : tie.Need-loop-again Inv-loop μ-loop
 loop-again c =
     let q = c .before .before .before .loop in
     let l : q .k < length (q .rows) = omega (arith, q .inv .1) in
-    (omega arith, simp length-set (q .inv .1), omega arith, λ head pl f v. resolved-more (c .before .before .before .before .before .before .before .before .args .table .now) (q .rows) f (q .k) _ _ l (c .before .word2 .ensures) (c .row-or-end .ensures head pl f v) (q .inv .3 head pl f v))
+    (omega arith, simp length-set (q .inv .1), omega arith, λ head pl f v. resolved-more (c .before .before .before .before .before .before .before .before .before .args .table .now) (q .rows) f (q .k) _ _ l (c .before .word2 .ensures) (c .row-or-end .ensures head pl f v) (q .inv .3 head pl f v))
 
-returns-2 : tie.Need-returns-2 Inv-loop μ-loop
-returns-2 c = λ head pl f v. resolved-all v (c .before .loop .rows) _ (c .before .loop .k) (c .before .before .before .word .ensures) (omega arith) (c .before .loop .inv .3 head pl f v)
+returns-3 : tie.Need-returns-3 Inv-loop μ-loop
+returns-3 c = λ head pl f v. resolved-all v (c .before .loop .rows) _ (c .before .loop .k) (c .before .before .before .word .ensures) (omega arith) (c .before .loop .inv .3 head pl f v)
 
 pub resolve-spec : {M : Type 1} → statement M
 resolve-spec =
-    tie.close (tie.spec Inv-loop μ-loop (λ c κs. search needs) (search needs) returns loop-holds (search needs)
-    (λ c κs. search needs) (search needs) (search needs) (λ c κs. search needs) (search needs) slice-write-rows
-    (search needs) (search needs) loop-again (search needs) returns-2)
+    tie.close (tie.spec Inv-loop μ-loop returns (λ c κs. search needs) (search needs) returns-2 loop-holds
+    (search needs) (λ c κs. search needs) (search needs) (search needs) (λ c κs. search needs) (search needs) slice-write-rows
+    (search needs) (search needs) loop-again (search needs) returns-3)

@@ -1,24 +1,27 @@
--- `items::is_taken` meets its contract: an ID out of the bounds is in no row, and any other is looked up. Assumes nothing.
+-- `items::is_taken` meets its contract: an ID out of the bounds, or whose remainder none has left, is in no row; any other is looked up. Assumes nothing.
 use Rattle.records.proofs.IdLaws.{found-some, found-none}
-use Rattle.items.proofs.TableLaws.{taken-high, taken-low}
-use mathlib.Core.Path.{sym}
+use Rattle.items.proofs.TableLaws.{taken-high, taken-low, taken-unseen}
+use mathlib.Core.Path.{sym, _∙_}
 use borrow.Author.Needs.{needs}
 use Rattle.items.proofs.is_taken.Statement.{statement}
 use Rattle.items.proofs.is_taken.Tie as tie
 
 returns : tie.Need-returns
-returns c = sym (taken-high (c .before .before .before .before .args .table .now) _ _ _ (c .before .before .before .before .pre) (c .if1 .taken))
+returns c = sym (taken-high (c .before .before .before .before .before .args .table .now) _ _ _ _ (c .before .before .before .before .before .pre) (c .if1 .taken))
 
 returns-2 : tie.Need-returns-2
-returns-2 c = sym (taken-low (c .before .before .before .before .before .before .args .table .now) _ _ _ (c .before .before .before .before .before .before .pre) (c .if2 .taken))
+returns-2 c = sym (taken-low (c .before .before .before .before .before .before .before .args .table .now) _ _ _ _ (c .before .before .before .before .before .before .before .pre) (c .if2 .taken))
 
 returns-3 : tie.Need-returns-3
-returns-3 c = let a = c .before .before .before .before .before .before .before .before .before .args in sym (found-some (a .table .now) (a .n) (a .id .0) _ _ (c .before .before .row-of .ensures) (c .enum-told .given .1))
+returns-3 c = sym (taken-unseen (c .before .before .before .before .before .before .before .before .before .before .args .table .now) _ _ _ _ (c .before .before .before .before .before .before .before .before .before .before .pre) (sym (c .before .word .ensures) ∙ c .if3 .taken))
 
 returns-4 : tie.Need-returns-4
-returns-4 c = let a = c .before .before .before .before .before .before .before .before .before .args in sym (found-none (a .table .now) (a .n) (a .id .0) _ (c .before .before .row-of .ensures) (c .enum-told2 .given .1))
+returns-4 c = let a = c .before .before .before .before .before .before .before .before .before .before .before .before .before .args in sym (found-some (a .table .now) (a .n) (a .id .0) _ _ (c .before .before .row-of .ensures) (c .enum-told .given .1))
+
+returns-5 : tie.Need-returns-5
+returns-5 c = let a = c .before .before .before .before .before .before .before .before .before .before .before .before .before .args in sym (found-none (a .table .now) (a .n) (a .id .0) _ (c .before .before .row-of .ensures) (c .enum-told2 .given .1))
 
 pub is-taken-spec : {M : Type 1} → statement M
 is-taken-spec =
-    tie.close (tie.spec (search needs) returns returns-2 (search needs) (search needs) (search needs) returns-3
-    returns-4)
+    tie.close (tie.spec (search needs) returns returns-2 (search needs) (search needs) returns-3 (search needs)
+    (search needs) (search needs) returns-4 returns-5)

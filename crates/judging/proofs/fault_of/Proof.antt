@@ -1,6 +1,6 @@
 -- `judging::fault_of` meets its contract. Assumes nothing.
 use Rattle.judging.specs.Order.{ruleBy}
-use Rattle.judging.specs.declared.Rule.the-variants.{Placed, Declared, Derived, Itself, Deep, Sized}
+use Rattle.judging.specs.declared.Rule.the-variants.{Placed, Derived, Itself, Deep, Sized}
 use Rattle.judging.proofs.OrderLaws.{by-rule}
 use borrow.Author.Needs.{needs}
 use Rattle.judging.proofs.fault_of.Statement.{statement}
@@ -12,26 +12,21 @@ returns c = λ f h l. by-rule _ _ _ _ _ f _ Placed _ _ (c .before .enum-told .gi
 
 returns-2 : tie.Need-returns-2
 unfolding ruleBy
-returns-2 c = λ f h l. by-rule _ _ _ _ _ f _ Declared _ _ (c .before .enum-told2 .given .1) (λ w. c .declared-fault .ensures _ _ f (w .view) (w .judging) l) h
+returns-2 c = λ f h l. by-rule _ _ _ _ _ f _ Derived _ _ (c .before .enum-told2 .given .1) (λ w. c .derived-fault .ensures _ _ f (w .0 .view) (w .0 .resolved) l (w .1 _ l)) h
 
 returns-3 : tie.Need-returns-3
 unfolding ruleBy
-returns-3 c = λ f h l. by-rule _ _ _ _ _ f _ Derived _ _ (c .before .enum-told3 .given .1) (λ w. c .derived-fault .ensures _ _ f (w .0 .view) (w .0 .resolved) l (w .1 _ l)) h
+returns-3 c = λ f h l. by-rule _ _ _ _ _ f _ Itself _ _ (c .before .enum-told3 .given .1) (λ w. c .itself-fault .ensures _ _ f w l) h
 
 returns-4 : tie.Need-returns-4
 unfolding ruleBy
-returns-4 c = λ f h l. by-rule _ _ _ _ _ f _ Itself _ _ (c .before .enum-told4 .given .1) (λ w. c .itself-fault .ensures _ _ f w l) h
+returns-4 c = λ f h l. by-rule _ _ _ _ _ f _ Deep _ _ (c .before .enum-told4 .given .1) (λ w. c .deep-fault .ensures _ _ _ f w l) h
 
 returns-5 : tie.Need-returns-5
 unfolding ruleBy
-returns-5 c = λ f h l. by-rule _ _ _ _ _ f _ Deep _ _ (c .before .enum-told5 .given .1) (λ w. c .deep-fault .ensures _ _ _ f w l) h
-
-returns-6 : tie.Need-returns-6
-unfolding ruleBy
-returns-6 c = λ f h l. by-rule _ _ _ _ _ f _ (Sized _) _ _ (c .before .before .rule .given .1) (λ w. c .size-fault .ensures _ f w l) h
+returns-5 c = λ f h l. by-rule _ _ _ _ _ f _ (Sized _) _ _ (c .before .before .rule .given .1) (λ w. c .size-fault .ensures _ f w l) h
 
 pub fault-of-spec : {M : Type 1} → statement M
 fault-of-spec =
     tie.close (tie.spec (search needs) (search needs) (search needs) (search needs) (search needs) (search needs)
-    (search needs) (search needs) (search needs) (search needs) (search needs) (search needs) returns returns-2
-    returns-3 returns-4 returns-5 returns-6)
+    (search needs) (search needs) (search needs) (search needs) returns returns-2 returns-3 returns-4 returns-5)

@@ -16,36 +16,53 @@ Inv-loop head total table rows idat rule n k₀ k = (k ≤ n) × ((f : File) →
 abbrev μ-loop : tie.MeasureT-loop
 μ-loop head total table rows idat rule n k₀ k = n - k
 
+-- no table that is a file's is shorter, or has more items
 returns : tie.Need-returns Inv-loop μ-loop
 returns c =
     λ f w.
-    let a = c .before .before .before .before .before .before .before .before .before .before .before .args in
+    let a = c .before .before .before .before .args in
     let v = ready-view (a .table .now) (a .rows .now) (a .head .now) (a .total) (a .idat) f (a .rule) w in
-    let h : c .before .before .before .before .before .before .loop .k < length (f .items) = omega (arith, v .items, c .before .before .before .before .before .before .before .item-count .ensures) in
-    let i = c .before .before .before .before .row-at .ensures in
-    let l : c .before .before .before .before .row-at .result .0 < length (f .items) = omega arith in
-    order-off _ _ _ f _ _ _ h (c .before .before .before .before .before .before .loop .inv .1 f w) i (c .before .before .before .fault-of .ensures f w l) (c .before .before .if1 .taken) _ (c .before .id-of .ensures (omega (arith, v .bounded .few-items)) ∙ v .id _ l)
-
-loop-again : tie.Need-loop-again Inv-loop μ-loop
-loop-again c = (
-  omega arith,
-  λ f w.
-      let a = c .before .before .before .before .before .before .before .before .before .args in
-      let v = ready-view (a .table .now) (a .rows .now) (a .head .now) (a .total) (a .idat) f (a .rule) w in
-      let h : c .before .before .before .before .loop .k < length (f .items) = omega (arith, v .items, c .before .before .before .before .before .item-count .ensures) in
-      let i = c .before .before .row-at .ensures in
-      let l : c .before .before .row-at .result .0 < length (f .items) = omega arith in
-      order-on _ _ _ f _ _ _ h (c .before .before .before .before .loop .inv .1 f w) i (c .before .fault-of .ensures f w l) (c .if1 .left),
-)
+    absurd (omega (arith, v .enough, c .if1 .taken))
 
 returns-2 : tie.Need-returns-2 Inv-loop μ-loop
 returns-2 c =
     λ f w.
     let a = c .before .before .before .before .before .before .args in
     let v = ready-view (a .table .now) (a .rows .now) (a .head .now) (a .total) (a .idat) f (a .rule) w in
-    order-end _ _ _ f (c .before .loop .k) (omega (arith, v .items, c .before .before .item-count .ensures)) (c .before .loop .inv .1 f w)
+    absurd (omega (arith, v .items, v .bounded .few-items, c .before .item-count .ensures, c .if2 .taken))
+
+returns-3 : tie.Need-returns-3 Inv-loop μ-loop
+returns-3 c =
+    λ f w.
+    let a = c .before .before .before .before .before .before .before .before .before .before .before .before .before .args in
+    let v = ready-view (a .table .now) (a .rows .now) (a .head .now) (a .total) (a .idat) f (a .rule) w in
+    let q = c .before .before .before .before .before .before .loop in
+    let row = c .before .before .before .before .row-at in
+    let h : q .k < length (f .items) = omega (arith, v .items, c .before .before .before .before .before .before .before .before .item-count .ensures) in
+    let l : row .result .0 < length (f .items) = omega arith in
+    order-off _ _ _ f _ _ _ h (q .inv .1 f w) (row .ensures) (c .before .before .before .fault-of .ensures f w l) (c .before .before .if3 .taken) _ (c .before .id-of .ensures (omega (arith, v .bounded .few-items)) ∙ v .id _ l)
+
+loop-again : tie.Need-loop-again Inv-loop μ-loop
+loop-again c = (
+  omega arith,
+  λ f w.
+      let a = c .before .before .before .before .before .before .before .before .before .before .before .args in
+      let v = ready-view (a .table .now) (a .rows .now) (a .head .now) (a .total) (a .idat) f (a .rule) w in
+      let q = c .before .before .before .before .loop in
+      let row = c .before .before .row-at in
+      let h : q .k < length (f .items) = omega (arith, v .items, c .before .before .before .before .before .before .item-count .ensures) in
+      let l : row .result .0 < length (f .items) = omega arith in
+      order-on _ _ _ f _ _ _ h (q .inv .1 f w) (row .ensures) (c .before .fault-of .ensures f w l) (c .if3 .left),
+)
+
+returns-4 : tie.Need-returns-4 Inv-loop μ-loop
+returns-4 c =
+    λ f w.
+    let a = c .before .before .before .before .before .before .before .before .args in
+    let v = ready-view (a .table .now) (a .rows .now) (a .head .now) (a .total) (a .idat) f (a .rule) w in
+    order-end _ _ _ f (c .before .loop .k) (omega (arith, v .items, c .before .before .before .item-count .ensures)) (c .before .loop .inv .1 f w)
 
 pub first-fault-spec : {M : Type 1} → statement M
 first-fault-spec =
-    tie.close (tie.spec Inv-loop μ-loop (search needs) (λ c. (omega arith, λ f w. refl)) (search needs) (search needs)
-    (search needs) (search needs) returns (λ c. omega arith) (λ c. omega arith) loop-again returns-2)
+    tie.close (tie.spec Inv-loop μ-loop returns (search needs) returns-2 (λ c. (omega arith, λ f w. refl)) (search needs)
+    (search needs) (search needs) (search needs) returns-3 (λ c. omega arith) (λ c. omega arith) loop-again returns-4)

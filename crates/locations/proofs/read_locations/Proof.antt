@@ -6,7 +6,7 @@ use Rattle.contents.proofs.FullLaws.{full-here, full-gone}
 use Rattle.records.specs.Rows.{idsIn}
 use Rattle.locations.specs.Told.{toldLocations}
 use Rattle.locations.specs.Parts.{sizes-form, SizesAre}
-use Rattle.locations.proofs.SizeLaws.{iloc-gone, iloc-sizes-gone, iloc-entries}
+use Rattle.locations.proofs.SizeLaws.{iloc-gone, iloc-sizes-gone, iloc-entries, four-wide}
 use Rattle.locations.proofs.LoopLaws.{told-same, left-whole, left-gone}
 use native.Mathlib.Omega.{arith}
 use borrow.Author.Needs.{needs}
@@ -18,31 +18,43 @@ read-sizes-requires c κs =
     let a = c .before .before .before .before .before .before .args in
     (full-here (upto 2) (a .place) (a .s .now) _ _ (sym (c .before .before .before .read-full .ensures) ∙ c .before .h2 .given .1)) .room
 
-add-put-entries : tie.Need-add-put-entries
-add-put-entries c =
-    let a = c .before .before .before .before .before .before .before .before .before .before .args in
-    let v = c .before .before .before .before .before .h2 .given .0 .0 in
-    let z = subst (SizesAre (sizes-form v .read (a .place) (drop 4 (a .s .now))) (a .s .now)) (c .before .z2 .given .1) (c .before .before .before .read-sizes .ensures) in
-    omega arith
-
 put-entries-requires : tie.Need-put-entries-requires
 put-entries-requires c κs =
-    let a = c .before .before .before .before .before .before .before .before .before .before .before .args in
-    let v = c .before .before .before .before .before .before .h2 .given .0 .0 in
-    let z = subst (SizesAre (sizes-form v .read (a .place) (drop 4 (a .s .now))) (a .s .now)) (c .before .before .z2 .given .1) (c .before .before .before .before .read-sizes .ensures) in
-    (z .room, z .sized, c .before .before .before .before .before .before .before .before .before .before .before .pre .1, c .before .before .before .before .before .before .before .before .before .before .before .pre .0, c .before .before .before .before .before .before .before .before .before .before .before .pre .2)
+    let a = c .before .before .before .before .before .before .before .before .before .before .before .before .before .args in
+    let v = c .before .before .before .before .before .before .before .before .h2 .given .0 .0 in
+    let z = subst (SizesAre (sizes-form v .read (a .place) (drop 4 (a .s .now))) (a .s .now)) (c .before .before .before .before .z2 .given .1) (c .before .before .before .before .before .before .read-sizes .ensures) in
+    let pre = c .before .before .before .before .before .before .before .before .before .before .before .before .before .pre in
+    (omega (arith, z .room, c .before .if1 .taken), z .sized, pre .1, pre .0, pre .2)
+
+put-entries-requires-2 : tie.Need-put-entries-requires-2
+put-entries-requires-2 c κs =
+    let a = c .before .before .before .before .before .before .before .before .before .before .before .before .before .args in
+    let v = c .before .before .before .before .before .before .before .before .h2 .given .0 .0 in
+    let z = subst (SizesAre (sizes-form v .read (a .place) (drop 4 (a .s .now))) (a .s .now)) (c .before .before .before .before .z2 .given .1) (c .before .before .before .before .before .before .read-sizes .ensures) in
+    let pre = c .before .before .before .before .before .before .before .before .before .before .before .before .before .pre in
+    (omega (arith, z .room, four-wide _ (z .sized) (c .before .if1 .left)), z .sized, pre .1, pre .0, pre .2)
 
 returns : tie.Need-returns
-unfolding toldLocations
 returns c =
+    let a = c .before .before .before .before .before .before .before .before .before .before .before .before .before .before .before .before .args in
+    let v = c .before .before .before .before .before .before .before .before .before .before .before .h2 .given .0 .0 in
+    let z = subst (SizesAre (sizes-form v .read (a .place) (drop 4 (a .s .now))) (a .s .now)) (c .before .before .before .before .before .before .before .z2 .given .1) (c .before .before .before .before .before .before .before .before .before .read-sizes .ensures) in
+    let f = full-here (upto 2) (a .place) (a .s .now) _ _ (sym (c .before .before .before .before .before .before .before .before .before .before .before .before .before .read-full .ensures) ∙ c .before .before .before .before .before .before .before .before .before .before .before .h2 .given .1) in
+    let p = c .before .before .put-entries in
+    let e = iloc-entries (idsIn (a .table .now) (a .n)) (a .place) (a .s .now) _ _ f _ _ z 8 (omega (arith, c .before .before .before .before .if1 .taken)) in
+    (told-same (p .result) _ _ e (p .ensures .0), left-whole _ (a .s .now) (a .place) (a .n) (a .idat) (a .table .now) _ e (p .ensures .1))
+
+returns-2 : tie.Need-returns-2
+unfolding toldLocations
+returns-2 c =
     let a = c .before .before .before .before .before .before .args in
     let f = full-gone (upto 2) (a .place) (a .s .now) _ _ (sym (c .before .before .before .read-full .ensures) ∙ c .before .h .given .1) in
     let e = iloc-gone (idsIn (a .table .now) (a .n)) (a .place) (a .s .now) _ _ f in
     (sym (ap toldLocations e), left-gone (a .s .now) (a .place) (a .n) (a .idat) (a .table .now) _ _ e)
 
-returns-2 : tie.Need-returns-2
+returns-3 : tie.Need-returns-3
 unfolding toldLocations
-returns-2 c =
+returns-3 c =
     let a = c .before .before .before .before .before .before .before .before .before .before .args in
     let f = full-here (upto 2) (a .place) (a .s .now) _ _ (sym (c .before .before .before .before .before .before .before .read-full .ensures) ∙ c .before .before .before .before .before .h2 .given .1) in
     let v = c .before .before .before .before .before .h2 .given .0 .0 in
@@ -50,17 +62,17 @@ returns-2 c =
     let e = iloc-sizes-gone (idsIn (a .table .now) (a .n)) (a .place) (a .s .now) _ _ f _ _ z in
     (sym (ap toldLocations e), left-gone (a .s .now) (a .place) (a .n) (a .idat) (a .table .now) _ _ e)
 
-returns-3 : tie.Need-returns-3
-returns-3 c =
-    let a = c .before .before .before .before .before .before .before .before .before .before .before .before .before .before .args in
-    let f = full-here (upto 2) (a .place) (a .s .now) _ _ (sym (c .before .before .before .before .before .before .before .before .before .before .before .read-full .ensures) ∙ c .before .before .before .before .before .before .before .before .before .h2 .given .1) in
-    let v = c .before .before .before .before .before .before .before .before .before .h2 .given .0 .0 in
-    let z = subst (SizesAre (sizes-form v .read (a .place) (drop 4 (a .s .now))) (a .s .now)) (c .before .before .before .before .before .z2 .given .1) (c .before .before .before .before .before .before .before .read-sizes .ensures) in
-    let p = c .before .before .put-entries in
-    let e = iloc-entries (idsIn (a .table .now) (a .n)) (a .place) (a .s .now) _ _ f _ _ z in
+returns-4 : tie.Need-returns-4
+returns-4 c =
+    let a = c .before .before .before .before .before .before .before .before .before .before .before .before .before .before .before .before .args in
+    let v = c .before .before .before .before .before .before .before .before .before .before .before .h2 .given .0 .0 in
+    let z = subst (SizesAre (sizes-form v .read (a .place) (drop 4 (a .s .now))) (a .s .now)) (c .before .before .before .before .before .before .before .z2 .given .1) (c .before .before .before .before .before .before .before .before .before .read-sizes .ensures) in
+    let f = full-here (upto 2) (a .place) (a .s .now) _ _ (sym (c .before .before .before .before .before .before .before .before .before .before .before .before .before .read-full .ensures) ∙ c .before .before .before .before .before .before .before .before .before .before .before .h2 .given .1) in
+    let p = c .before .before .put-entries2 in
+    let e = iloc-entries (idsIn (a .table .now) (a .n)) (a .place) (a .s .now) _ _ f _ _ z 10 (omega (arith, four-wide _ (z .sized) (c .before .before .before .before .if1 .left))) in
     (told-same (p .result) _ _ e (p .ensures .0), left-whole _ (a .s .now) (a .place) (a .n) (a .idat) (a .table .now) _ e (p .ensures .1))
 
 pub read-locations-spec : {M : Type 1} → statement M
 read-locations-spec =
     tie.close (tie.spec (search needs) (search needs) (search needs) read-sizes-requires (search needs) (search needs)
-    add-put-entries put-entries-requires returns returns-2 (search needs) returns-3)
+    put-entries-requires (search needs) returns put-entries-requires-2 returns-2 returns-3 (search needs) returns-4)

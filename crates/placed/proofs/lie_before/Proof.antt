@@ -1,56 +1,58 @@
--- `placed::lie_before` meets its contract. Assumes nothing.
-use Prim.Native.Nat.{ℕ, _+_, _-_, _<_}
+-- `placed::lie_before` meets its contract: both tests of an extent are one, and what all make of it is what those from here on make. Assumes nothing.
+use Prim.Native.Nat.{ℕ, _-_, _<_}
 use native.Mathlib.Omega.{arith}
-use mathlib.Core.Path.{_≡_, refl}
+use mathlib.Core.Path.{_≡_, refl, _∙_}
 use mathlib.Core.List.{List}
-use mathlib.Core.Bool.{true}
 use lib.ListN.{length, drop}
-use lib.Dec.{leb}
 use borrow.Author.Needs.{needs}
-use Rattle.contents.specs.Iloc.{Extent}
 use Rattle.contents.specs.File.{File}
-use Rattle.rules.specs.Bytes.{allExtents, goodLengths}
+use Rattle.rules.specs.Bytes.{allExtents}
 use Rattle.rules.specs.Joined.{locationOf}
-use Rattle.rules.specs.Places.{Places, fileOffset}
-use Rattle.views.specs.View.{TableOf, idOf, noExtent}
-use Rattle.views.proofs.ViewLaws.{extents-each}
-use Rattle.placed.proofs.ExtentLaws.{extents-count, extents-fail, extents-on, extents-pass, ends-past, ends-before}
+use Rattle.rules.specs.Places.{Places}
+use Rattle.views.specs.View.{TableOf, idOf}
+use Rattle.placed.proofs.ExtentLaws.{extents-count, extents-fail, extents-on, extents-pass, extents-both, endsBy, ends-empty, ends-past, ends-before}
 use Rattle.placed.proofs.lie_before.Statement.{statement}
 use Rattle.placed.proofs.lie_before.Tie as tie
 
 abbrev Inv-loop : tie.InvT-loop
 Inv-loop table row end n j₀ j =
-    (head : List ℕ) (pl : Places) (f : File) → TableOf table head pl f → row .0 < length (f .items) → goodLengths (locationOf f (idOf f (row .0))) ≡ true
-    → allExtents (λ (e : Extent). leb (fileOffset pl (locationOf f (idOf f (row .0))) e + e .size) end) (locationOf f (idOf f (row .0)) .extents)
-    ≡ allExtents (λ (e : Extent). leb (fileOffset pl (locationOf f (idOf f (row .0))) e + e .size) end) (drop j (locationOf f (idOf f (row .0)) .extents))
+    (head : List ℕ) (pl : Places) (f : File) → TableOf table head pl f → row .0 < length (f .items)
+    → allExtents (endsBy end pl (locationOf f (idOf f (row .0)))) (locationOf f (idOf f (row .0)) .extents)
+    ≡ allExtents (endsBy end pl (locationOf f (idOf f (row .0)))) (drop j (locationOf f (idOf f (row .0)) .extents))
 
 abbrev μ-loop : tie.MeasureT-loop
 μ-loop table row end n j₀ j = n - j
 
 returns : tie.Need-returns Inv-loop μ-loop
-returns c = λ head pl f v h g.
+returns c = λ head pl f v h.
     let l = extents-count v (c .before .before .before .before .before .before .args .row .0) _ h (c .before .before .before .before .record-word .ensures) in
     let q = c .before .extent-of .ensures head pl f v h (omega arith) in
-    extents-fail _ _ (c .before .before .before .loop .j) (c .before .before .before .loop .inv head pl f v h g) (omega arith) (ends-past (c .before .before .before .before .before .before .args .end) _ _ (c .before .extent-of .result .offset) (c .before .extent-of .result .size) (c .before .before .before .before .before .before .fits .end) (q .1) (q .0) (omega arith))
+    extents-fail _ _ (c .before .before .before .loop .j) (c .before .before .before .loop .inv head pl f v h) (omega arith) (ends-empty (c .before .before .before .before .before .before .args .end) _ _ (c .before .extent-of .result .offset) (c .before .extent-of .result .size) (c .before .before .before .before .before .before .fits .end) (q .1) (q .0) (c .if1 .taken)) ∙ extents-both _ _ _
 
 returns-2 : tie.Need-returns-2 Inv-loop μ-loop
-returns-2 c = λ head pl f v h g.
-    let l = extents-count v (c .before .before .before .before .before .before .before .before .args .row .0) _ h (c .before .before .before .before .before .before .record-word .ensures) in
-    let q = c .before .before .before .extent-of .ensures head pl f v h (omega arith) in
-    extents-fail _ _ (c .before .before .before .before .before .loop .j) (c .before .before .before .before .before .loop .inv head pl f v h g) (omega arith) (ends-past (c .before .before .before .before .before .before .before .before .args .end) _ _ (c .before .before .before .extent-of .result .offset) (c .before .before .before .extent-of .result .size) (c .before .before .before .before .before .before .before .before .fits .end) (q .1) (q .0) (omega arith))
-
-loop-again : tie.Need-loop-again Inv-loop μ-loop
-loop-again c = λ head pl f v h g.
-    let l = extents-count v (c .before .before .before .before .before .before .before .before .args .row .0) _ h (c .before .before .before .before .before .before .record-word .ensures) in
-    let q = c .before .before .before .extent-of .ensures head pl f v h (omega arith) in
-    extents-on _ _ (c .before .before .before .before .before .loop .j) (c .before .before .before .before .before .loop .inv head pl f v h g) (omega arith) (ends-before (c .before .before .before .before .before .before .before .before .args .end) _ _ (c .before .before .before .extent-of .result .offset) (c .before .before .before .extent-of .result .size) (c .before .before .before .before .before .before .before .before .fits .end) (q .1) (q .0) (omega arith) (extents-each _ noExtent _ g (c .before .before .before .before .before .loop .j) (omega arith)))
+returns-2 c = λ head pl f v h.
+    let l = extents-count v (c .before .before .before .before .before .before .before .args .row .0) _ h (c .before .before .before .before .before .record-word .ensures) in
+    let q = c .before .before .extent-of .ensures head pl f v h (omega arith) in
+    extents-fail _ _ (c .before .before .before .before .loop .j) (c .before .before .before .before .loop .inv head pl f v h) (omega arith) (ends-past (c .before .before .before .before .before .before .before .args .end) _ _ (c .before .before .extent-of .result .offset) (c .before .before .extent-of .result .size) (c .before .before .before .before .before .before .before .fits .end) (q .1) (q .0) (omega arith)) ∙ extents-both _ _ _
 
 returns-3 : tie.Need-returns-3 Inv-loop μ-loop
-returns-3 c = λ head pl f v h g.
+returns-3 c = λ head pl f v h.
+    let l = extents-count v (c .before .before .before .before .before .before .before .before .args .row .0) _ h (c .before .before .before .before .before .before .record-word .ensures) in
+    let q = c .before .before .before .extent-of .ensures head pl f v h (omega arith) in
+    extents-fail _ _ (c .before .before .before .before .before .loop .j) (c .before .before .before .before .before .loop .inv head pl f v h) (omega arith) (ends-past (c .before .before .before .before .before .before .before .before .args .end) _ _ (c .before .before .before .extent-of .result .offset) (c .before .before .before .extent-of .result .size) (c .before .before .before .before .before .before .before .before .fits .end) (q .1) (q .0) (omega arith)) ∙ extents-both _ _ _
+
+loop-again : tie.Need-loop-again Inv-loop μ-loop
+loop-again c = λ head pl f v h.
+    let l = extents-count v (c .before .before .before .before .before .before .before .before .args .row .0) _ h (c .before .before .before .before .before .before .record-word .ensures) in
+    let q = c .before .before .before .extent-of .ensures head pl f v h (omega arith) in
+    extents-on _ _ (c .before .before .before .before .before .loop .j) (c .before .before .before .before .before .loop .inv head pl f v h) (omega arith) (ends-before (c .before .before .before .before .before .before .before .before .args .end) _ _ (c .before .before .before .extent-of .result .offset) (c .before .before .before .extent-of .result .size) (c .before .before .before .before .before .before .before .before .fits .end) (q .1) (q .0) (omega arith) (c .before .before .if1 .left))
+
+returns-4 : tie.Need-returns-4 Inv-loop μ-loop
+returns-4 c = λ head pl f v h.
     let l = extents-count v (c .before .before .before .before .args .row .0) _ h (c .before .before .record-word .ensures) in
-    extents-pass _ _ (c .before .loop .j) (c .before .loop .inv head pl f v h g) (omega arith)
+    extents-pass _ _ (c .before .loop .j) (c .before .loop .inv head pl f v h) (omega arith) ∙ extents-both _ _ _
 
 pub lie-before-spec : {M : Type 1} → statement M
 lie-before-spec =
-    tie.close (tie.spec Inv-loop μ-loop (λ c κs. search needs) (search needs) (λ c. λ head pl f v h g. refl)
-    (search needs) returns returns-2 (search needs) (search needs) loop-again returns-3)
+    tie.close (tie.spec Inv-loop μ-loop (λ c κs. search needs) (search needs) (λ c. λ head pl f v h. refl)
+    (search needs) returns returns-2 returns-3 (search needs) (search needs) loop-again returns-4)

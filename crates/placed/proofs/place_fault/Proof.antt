@@ -2,22 +2,26 @@
 use borrow.Author.Needs.{needs}
 use borrow.Author.Tests.{not-true, not-false}
 use Rattle.rules.specs.Joined.{itemAt}
-use Rattle.placed.proofs.PlaceLaws.{fault-13, fault-outside, fault-empty, fault-none}
+use Rattle.placed.proofs.PlaceLaws.{fault-method, fault-length, fault-outside, fault-empty, fault-none}
 use Rattle.placed.proofs.place_fault.Statement.{statement}
 use Rattle.placed.proofs.place_fault.Tie as tie
 
 returns : tie.Need-returns
-returns c = λ head pl f v w i h. fault-13 (c .before .before .before .args .total) head f (itemAt f (c .before .before .before .args .row .0)) _ (c .before .good-location .ensures head pl f v w h) (not-true _ (c .if1 .taken))
+returns c = λ head pl f v w i h. fault-method (c .before .before .before .args .total) head f (itemAt f (c .before .before .before .args .row .0)) _ (c .before .good-method .ensures head pl f v w h) (not-true _ (c .if1 .taken))
 
 returns-2 : tie.Need-returns-2
-returns-2 c = λ head pl f v w i h. fault-outside (c .before .before .before .before .before .args .total) head f (itemAt f (c .before .before .before .before .before .args .row .0)) _ (c .before .before .before .good-location .ensures head pl f v w h) (not-false _ (c .before .before .if1 .left)) _ (c .before .lies-within .ensures head pl f v i h) (not-true _ (c .if2 .taken))
+returns-2 c = λ head pl f v w i h. fault-outside (c .before .before .before .before .before .before .before .args .total) head f (itemAt f (c .before .before .before .before .before .before .before .args .row .0)) _ (c .before .before .before .before .before .good-method .ensures head pl f v w h) (not-false _ (c .before .before .before .before .if1 .left)) _ (c .before .before .before .lies-within .ensures head pl f v i h) (not-true _ (c .before .before .if2 .taken)) _ (c .before .has-lengths .ensures head pl f v h) (c .if3 .taken)
 
 returns-3 : tie.Need-returns-3
-returns-3 c = λ head pl f v w i h. fault-empty (c .before .before .before .before .before .before .before .args .total) head f (itemAt f (c .before .before .before .before .before .before .before .args .row .0)) _ (c .before .before .before .before .before .good-location .ensures head pl f v w h) (not-false _ (c .before .before .before .before .if1 .left)) _ (c .before .before .before .lies-within .ensures head pl f v i h) (not-false _ (c .before .before .if2 .left)) _ (c .before .has-bytes .ensures head pl f v h) (not-true _ (c .if3 .taken))
+returns-3 c = λ head pl f v w i h. fault-length (c .before .before .before .before .before .before .before .args .total) head f (itemAt f (c .before .before .before .before .before .before .before .args .row .0)) _ (c .before .before .before .before .before .good-method .ensures head pl f v w h) (not-false _ (c .before .before .before .before .if1 .left)) _ (c .before .before .before .lies-within .ensures head pl f v i h) (not-true _ (c .before .before .if2 .taken)) _ (c .before .has-lengths .ensures head pl f v h) (c .if3 .left)
 
 returns-4 : tie.Need-returns-4
-returns-4 c = λ head pl f v w i h. fault-none (c .before .before .before .before .before .before .before .args .total) head f (itemAt f (c .before .before .before .before .before .before .before .args .row .0)) _ (c .before .before .before .before .before .good-location .ensures head pl f v w h) (not-false _ (c .before .before .before .before .if1 .left)) _ (c .before .before .before .lies-within .ensures head pl f v i h) (not-false _ (c .before .before .if2 .left)) _ (c .before .has-bytes .ensures head pl f v h) (not-false _ (c .if3 .left))
+returns-4 c = λ head pl f v w i h. fault-empty (c .before .before .before .before .before .before .before .args .total) head f (itemAt f (c .before .before .before .before .before .before .before .args .row .0)) _ (c .before .before .before .before .before .good-method .ensures head pl f v w h) (not-false _ (c .before .before .before .before .if1 .left)) _ (c .before .before .before .lies-within .ensures head pl f v i h) (not-false _ (c .before .before .if2 .left)) _ (c .before .has-bytes .ensures head pl f v h) (not-true _ (c .if4 .taken))
+
+returns-5 : tie.Need-returns-5
+returns-5 c = λ head pl f v w i h. fault-none (c .before .before .before .before .before .before .before .args .total) head f (itemAt f (c .before .before .before .before .before .before .before .args .row .0)) _ (c .before .before .before .before .before .good-method .ensures head pl f v w h) (not-false _ (c .before .before .before .before .if1 .left)) _ (c .before .before .before .lies-within .ensures head pl f v i h) (not-false _ (c .before .before .if2 .left)) _ (c .before .has-bytes .ensures head pl f v h) (not-false _ (c .if4 .left))
 
 pub place-fault-spec : {M : Type 1} → statement M
 place-fault-spec =
-    tie.close (tie.spec (search needs) returns (search needs) returns-2 (search needs) returns-3 returns-4)
+    tie.close (tie.spec (search needs) returns (search needs) (search needs) returns-2 returns-3 (search needs) returns-4
+    returns-5)

@@ -9,6 +9,12 @@ use Rattle.reading.proofs.NextLaws.{iprp-within, iprp-gone, iprp-on}
 use Rattle.reading.proofs.read_iprp.Statement.{statement}
 use Rattle.reading.proofs.read_iprp.Tie as tie
 
+add-place : tie.Need-add-place
+add-place c = let h = iprp-within (c .before .before .before .args .s .now) (c .before .before .before .args .at) _ (c .before .before .before .pre .0) (c .before .before .before .pre .1) in omega arith
+
+add-base : tie.Need-add-base
+add-base c = let h = iprp-within (c .before .before .before .args .s .now) (c .before .before .before .args .at) _ (c .before .before .before .pre .0) (c .before .before .before .pre .1) in omega arith
+
 sub-read-shown : tie.Need-sub-read-shown
 sub-read-shown c = let h = iprp-within (c .before .before .before .args .s .now) (c .before .before .before .args .at) _ (c .before .before .before .pre .0) (c .before .before .before .pre .1) in omega arith
 
@@ -17,12 +23,6 @@ part-read-shown-start c = let h = iprp-within (c .before .before .before .args .
 
 part-read-shown-end : tie.Need-part-read-shown-end
 part-read-shown-end c = let h = iprp-within (c .before .before .before .args .s .now) (c .before .before .before .args .at) _ (c .before .before .before .pre .0) (c .before .before .before .pre .1) in omega arith
-
-add-read-shown : tie.Need-add-read-shown
-add-read-shown c = let h = iprp-within (c .before .before .before .before .args .s .now) (c .before .before .before .before .args .at) _ (c .before .before .before .before .pre .0) (c .before .before .before .before .pre .1) in omega arith
-
-add-read-shown-2 : tie.Need-add-read-shown-2
-add-read-shown-2 c = let h = iprp-within (c .before .before .before .before .args .s .now) (c .before .before .before .before .args .at) _ (c .before .before .before .before .pre .0) (c .before .before .before .before .pre .1) in omega arith
 
 read-shown-requires : tie.Need-read-shown-requires
 read-shown-requires c κs = let h = iprp-within (c .before .before .before .before .before .args .s .now) (c .before .before .before .before .before .args .at) _ (c .before .before .before .before .before .pre .0) (c .before .before .before .before .before .pre .1) in let k = c .before .before .before .before .before .pre .3 .3 .ready in (c .before .before .before .before .before .pre .2, omega (arith, k .count, k .bounded .few-items), part-room (c .before .before .before .before .before .args .s .now) (c .before .before .before .before .before .args .at) _ (c .before .before .before .before .before .pre .1) h)
@@ -38,6 +38,6 @@ returns-2 c = ((λ is ls x b e. let o = iprp-on (c .before .before .before .befo
 
 pub read-iprp-spec : {M : Type 1} → statement M
 read-iprp-spec =
-    tie.close (tie.spec (search needs) sub-read-shown part-read-shown-start part-read-shown-end add-read-shown
-    add-read-shown-2 read-shown-requires (search needs) (search needs) read-last-requires (search needs) returns
-    (search needs) returns-2)
+    tie.close (tie.spec (search needs) add-place add-base sub-read-shown part-read-shown-start part-read-shown-end
+    read-shown-requires (search needs) (search needs) read-last-requires (search needs) returns (search needs)
+    returns-2)

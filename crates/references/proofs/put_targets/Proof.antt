@@ -1,10 +1,9 @@
 -- `references::put_targets` meets its contract. Assumes nothing.
 use Prim.Native.Nat.{_-_}
 use mathlib.Core.Path.{subst}
-use mathlib.Core.Logic.{⊎-elim}
 use Rattle.records.specs.Rows.{FoundIs}
 use Rattle.records.specs.declared.FoundRow.the-variants.{At}
-use Rattle.references.proofs.TargetLaws.{So, begin, so-length, cut, unlisted, listed-kept, listed-passed, left-over, done}
+use Rattle.references.proofs.TargetLaws.{So, begin, so-length, cut, unlisted, listed, left-over, done}
 use native.Mathlib.Omega.{arith}
 use borrow.Author.Needs.{needs}
 use Rattle.references.proofs.put_targets.Statement.{statement}
@@ -40,43 +39,32 @@ same-length-2 c = so-length _ _ _ _ _ _ _ _ _ (c .before .before .before .before
 returns-2 : tie.Need-returns-2 Inv-loop μ-loop
 returns-2 c = unlisted _ _ _ _ _ _ _ _ _ (c .before .before .before .before .before .before .before .before .before .before .pre .1) (c .before .before .before .before .before .before .before .before .before .before .pre .4) (c .before .before .before .before .before .before .before .before .before .before .pre .5) _ _ _ (c .before .before .before .before .before .before .before .loop .inv) (c .before .before .before .before .before .before .loop-test .taken) (c .before .before .before .before .before .if1 .left) _ (c .before .before .before .before .be-id .ensures) (subst (FoundIs _ _ _) (c .enum-told .given .1) (c .before .before .row-of .ensures))
 
-add-table : tie.Need-add-table Inv-loop μ-loop
-add-table c = omega (arith, c .before .before .before .before .before .before .before .before .before .before .before .before .pre .4)
-
-add-table-2 : tie.Need-add-table-2 Inv-loop μ-loop
-add-table-2 c = omega (arith, c .before .before .before .before .before .before .before .before .before .before .before .before .pre .5 (c .if2 .taken), c .before .before .before .before .before .before .before .before .loop-test .taken)
-
-mul-table : tie.Need-mul-table Inv-loop μ-loop
-mul-table c = omega (arith, c .before .before .before .before .before .before .before .before .before .before .before .before .pre .5 (c .if2 .taken), c .before .before .before .before .before .before .before .before .loop-test .taken)
-
-slice-write-table : tie.Need-slice-write-table Inv-loop μ-loop
-slice-write-table c = omega (arith, c .before .before .before .before .before .before .before .before .before .before .before .before .pre .5 (c .if2 .taken), c .before .before .before .before .before .before .before .before .loop-test .taken, c .before .before .before .before .before .before .before .before .before .before .before .before .pre .0, so-length _ _ _ _ _ _ _ _ _ (c .before .before .before .before .before .before .before .before .before .before .before .before .pre .1) (c .before .before .before .before .before .before .before .before .before .before .before .before .pre .4) (c .before .before .before .before .before .before .before .before .before .before .before .before .pre .5) _ _ _ (c .before .before .before .before .before .before .before .before .before .loop .inv))
+put-target-requires : tie.Need-put-target-requires Inv-loop μ-loop
+put-target-requires c κs = (omega (arith, so-length _ _ _ _ _ _ _ _ _ (c .before .before .before .before .before .before .before .before .before .before .before .before .pre .1) (c .before .before .before .before .before .before .before .before .before .before .before .before .pre .4) (c .before .before .before .before .before .before .before .before .before .before .before .before .pre .5) _ _ _ (c .before .before .before .before .before .before .before .before .before .loop .inv), c .before .before .before .before .before .before .before .before .before .before .before .before .pre .0), λ e. omega (arith, c .before .before .before .before .before .before .before .before .before .before .before .before .pre .5 e, c .before .before .before .before .before .before .before .before .loop-test .taken))
 
 add-hope : tie.Need-add-hope Inv-loop μ-loop
-add-hope c = let g : FoundIs (c .before .before .before .before .before .before .before .before .before .loop .table) (c .before .before .before .before .before .before .before .before .before .before .before .before .args .n) (c .before .before .before .before .before .before .be-id .result) (At (c .before .before .f .given .0 .0)) = (subst (FoundIs _ _ _) (c .before .before .f .given .1) (c .before .before .before .before .row-of .ensures)) in omega (arith, g .0, c .before .before .before .before .before .before .before .before .before .before .before .before .pre .1)
+add-hope c = let g : FoundIs (c .before .before .before .before .before .before .before .before .before .before .before .before .before .loop .table) (c .before .before .before .before .before .before .before .before .before .before .before .before .before .before .before .before .args .n) (c .before .before .before .before .before .before .before .before .before .before .be-id .result) (At (c .before .before .before .before .before .before .f .given .0 .0)) = (subst (FoundIs _ _ _) (c .before .before .before .before .before .before .f .given .1) (c .before .before .before .before .before .before .before .before .row-of .ensures)) in omega (arith, g .0, c .before .before .before .before .before .before .before .before .before .before .before .before .before .before .before .before .pre .1)
 
 add-at : tie.Need-add-at Inv-loop μ-loop
-add-at c = omega (arith, c .before .before .before .before .before .before .before .before .before .loop .inv .here)
+add-at c = omega (arith, c .before .before .before .before .before .before .before .before .before .before .before .before .before .loop .inv .here)
 
 loop-again : tie.Need-loop-again Inv-loop μ-loop
-loop-again c =
-    ⊎-elim (λ y. listed-kept _ _ _ _ _ _ _ _ _ (c .before .before .before .before .before .before .before .before .before .before .before .before .pre .1) (c .before .before .before .before .before .before .before .before .before .before .before .before .pre .4) (c .before .before .before .before .before .before .before .before .before .before .before .before .pre .5) _ _ _ (c .before .before .before .before .before .before .before .before .before .loop .inv) (c .before .before .before .before .before .before .before .before .loop-test .taken) (c .before .before .before .before .before .before .before .if1 .left) _ (c .before .before .before .before .before .before .be-id .ensures) _ (subst (FoundIs _ _ _) (c .before .before .f .given .1) (c .before .before .before .before .row-of .ensures)) (y .0 .taken) _ (y .1))
-    (λ y. listed-passed _ _ _ _ _ _ _ _ _ (c .before .before .before .before .before .before .before .before .before .before .before .before .pre .1) (c .before .before .before .before .before .before .before .before .before .before .before .before .pre .4) (c .before .before .before .before .before .before .before .before .before .before .before .before .pre .5) _ _ _ (c .before .before .before .before .before .before .before .before .before .loop .inv) (c .before .before .before .before .before .before .before .before .loop-test .taken) (c .before .before .before .before .before .before .before .if1 .left) _ (c .before .before .before .before .before .before .be-id .ensures) _ (subst (FoundIs _ _ _) (c .before .before .f .given .1) (c .before .before .before .before .row-of .ensures)) (y .0 .left) _ (y .1)) (c .if2 .came)
+loop-again c = listed _ _ _ _ _ _ _ _ _ (c .before .before .before .before .before .before .before .before .before .before .before .before .before .before .before .before .pre .1) (c .before .before .before .before .before .before .before .before .before .before .before .before .before .before .before .before .pre .4) (c .before .before .before .before .before .before .before .before .before .before .before .before .before .before .before .before .pre .5) _ _ _ (c .before .before .before .before .before .before .before .before .before .before .before .before .before .loop .inv) (c .before .before .before .before .before .before .before .before .before .before .before .before .loop-test .taken) (c .before .before .before .before .before .before .before .before .before .before .before .if1 .left) _ (c .before .before .before .before .before .before .before .before .before .before .be-id .ensures) _ (subst (FoundIs _ _ _) (c .before .before .before .before .before .before .f .given .1) (c .before .before .before .before .before .before .before .before .row-of .ensures)) _ (c .before .before .before .put-target .ensures)
 
 same-length-3 : tie.Need-same-length-3 Inv-loop μ-loop
 same-length-3 c = so-length _ _ _ _ _ _ _ _ _ (c .before .before .before .before .before .pre .1) (c .before .before .before .before .before .pre .4) (c .before .before .before .before .before .pre .5) _ _ _ (c .before .before .loop .inv)
 
 returns-3 : tie.Need-returns-3 Inv-loop μ-loop
-returns-3 c = left-over _ _ _ _ _ _ _ _ _ (c .before .before .before .before .before .pre .1) (c .before .before .before .before .before .pre .4) (c .before .before .before .before .before .pre .5) _ _ _ (c .before .before .loop .inv) (c .before .loop-test .left) (c .if3 .taken)
+returns-3 c = left-over _ _ _ _ _ _ _ _ _ (c .before .before .before .before .before .pre .1) (c .before .before .before .before .before .pre .4) (c .before .before .before .before .before .pre .5) _ _ _ (c .before .before .loop .inv) (c .before .loop-test .left) (c .if2 .taken)
 
 same-length-4 : tie.Need-same-length-4 Inv-loop μ-loop
 same-length-4 c = so-length _ _ _ _ _ _ _ _ _ (c .before .before .before .before .before .pre .1) (c .before .before .before .before .before .pre .4) (c .before .before .before .before .before .pre .5) _ _ _ (c .before .before .loop .inv)
 
 returns-4 : tie.Need-returns-4 Inv-loop μ-loop
-returns-4 c = done _ _ _ _ _ _ _ _ _ (c .before .before .before .before .before .pre .1) (c .before .before .before .before .before .pre .4) (c .before .before .before .before .before .pre .5) _ _ _ (c .before .before .loop .inv) (c .before .loop-test .left) (c .if3 .left)
+returns-4 c = done _ _ _ _ _ _ _ _ _ (c .before .before .before .before .before .pre .1) (c .before .before .before .before .before .pre .4) (c .before .before .before .before .before .pre .5) _ _ _ (c .before .before .loop .inv) (c .before .loop-test .left) (c .if2 .left)
 
 pub put-targets-spec : {M : Type 1} → statement M
 put-targets-spec =
     tie.close (tie.spec Inv-loop μ-loop loop-holds sub-if1 same-length returns be-id-requires row-of-requires
-    (search needs) same-length-2 returns-2 (search needs) add-table add-table-2 mul-table slice-write-table add-hope
-    add-at (λ c. omega arith) (λ c. omega arith) loop-again same-length-3 returns-3 same-length-4 returns-4)
+    (search needs) same-length-2 returns-2 (search needs) put-target-requires add-hope add-at (λ c. omega arith)
+    (λ c. omega arith) loop-again same-length-3 returns-3 same-length-4 returns-4)

@@ -12,23 +12,23 @@ returns c = λ f w h. rw (c .enum-told .given .1)
 
 returns-2 : tie.Need-returns-2
 unfolding marginsAfter
-returns-2 c = λ f w h. rw (c .enum-told2 .given .1)
+returns-2 c = λ f w h. rw (c .before .enum-told2 .given .1, c .margins-of .ensures)
 
 returns-3 : tie.Need-returns-3
 unfolding marginsAfter
-returns-3 c = λ f w h. rw (c .enum-told3 .given .1)
+returns-3 c = λ f w h. rw (c .before .enum-told3 .given .1, c .margins-of2 .ensures)
 
 returns-4 : tie.Need-returns-4
 unfolding marginsAfter
-returns-4 c = λ f w h. rw (c .enum-told4 .given .1)
+returns-4 c = λ f w h. rw (c .before .enum-told4 .given .1, c .margins-of3 .ensures)
 
 returns-5 : tie.Need-returns-5
 unfolding marginsAfter
-returns-5 c = λ f w h. rw (c .enum-told5 .given .1)
+returns-5 c = λ f w h. rw (c .before .enum-told5 .given .1, c .margins-of4 .ensures)
 
 returns-6 : tie.Need-returns-6
 unfolding marginsAfter
-returns-6 c = λ f w h. rw (c .enum-told6 .given .1)
+returns-6 c = λ f w h. rw (c .before .enum-told6 .given .1, c .margins-of5 .ensures)
 
 returns-7 : tie.Need-returns-7
 returns-7 c =
@@ -44,6 +44,7 @@ returns-8 c = λ f w h. rw (c .enum-told7 .given .1)
 
 pub margins-after-spec : {M : Type 1} → statement M
 margins-after-spec =
-    tie.close (tie.spec (search needs) (search needs) (search needs) (search needs) (search needs) (search needs)
+    tie.close (tie.spec (search needs) (search needs) (λ c κs. search needs) (search needs) (λ c κs. search needs)
+    (search needs) (λ c κs. search needs) (search needs) (λ c κs. search needs) (search needs) (λ c κs. search needs)
     (search needs) (λ c κs. search needs) (search needs) returns returns-2 returns-3 returns-4 returns-5 returns-6
     returns-7 returns-8)

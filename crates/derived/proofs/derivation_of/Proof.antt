@@ -1,0 +1,37 @@
+-- `derived::derivation_of` meets its contract. A table that is a file's is long enough. Assumes nothing.
+use native.Mathlib.Omega.{arith}
+use mathlib.Core.Path.{sym, _∙_}
+use borrow.Author.Needs.{needs}
+use Rattle.rules.specs.Joined.{itemAt}
+use Rattle.views.proofs.TableLaws.{type-read}
+use Rattle.derived.proofs.RecipeLaws.{type-copy, type-tiles, type-layers}
+use Rattle.derived.proofs.derivation_of.Statement.{statement}
+use Rattle.derived.proofs.derivation_of.Tie as tie
+
+returns : tie.Need-returns
+returns c = λ total pl f v h placed d. absurd (omega (arith, v .enough))
+
+returns-2 : tie.Need-returns-2
+returns-2 c =
+    λ total pl f v h placed d.
+    let kind = type-read v (c .before .before .before .before .before .before .args .row .0) h _ (c .before .before .type-of .ensures) in
+    c .copy-of .ensures total _ pl f v h
+    ∙ type-copy total _ f (itemAt f (c .before .before .before .before .before .before .args .row .0)) (sym kind ∙ c .before .if2 .taken)
+
+returns-3 : tie.Need-returns-3
+returns-3 c =
+    λ total pl f v h placed d.
+    let kind = type-read v (c .before .before .before .before .before .before .before .args .row .0) h _ (c .before .before .before .type-of .ensures) in
+    c .tiles-of .ensures total pl f v h placed
+    ∙ type-tiles total _ f (itemAt f (c .before .before .before .before .before .before .before .args .row .0)) (λ q. c .before .before .if2 .left (kind ∙ q)) (sym kind ∙ c .before .if3 .taken)
+
+returns-4 : tie.Need-returns-4
+returns-4 c =
+    λ total pl f v h placed d.
+    let kind = type-read v (c .before .before .before .before .before .before .before .args .row .0) h _ (c .before .before .before .type-of .ensures) in
+    c .layers-of .ensures total pl f v h placed
+    ∙ type-layers total _ f (itemAt f (c .before .before .before .before .before .before .before .args .row .0)) (λ q. c .before .before .if2 .left (kind ∙ q)) (λ q. c .before .if3 .left (kind ∙ q))
+
+pub derivation-of-spec : {M : Type 1} → statement M
+derivation-of-spec =
+    tie.close (tie.spec returns (search needs) (search needs) returns-2 (search needs) returns-3 (search needs) returns-4)
