@@ -30,7 +30,9 @@ returns-3 : tie.Need-returns-3 Inv-loop μ-loop
 returns-3 c = let e = value-more _ _ _ _ (c .before .before .before .before .before .loop .inv .2) (c .before .before .digit-of .ensures) in sym (large-bad _ _ (c .before .before .before .before .loop-test .taken) (omega (arith, e, c .if3 .taken)))
 
 loop-again : tie.Need-loop-again Inv-loop μ-loop
-loop-again c = (omega arith, c .before .before .before .before .before .loop .inv .1, value-more _ _ _ _ (c .before .before .before .before .before .loop .inv .2) (c .before .before .digit-of .ensures), digits-more _ _ (c .before .before .before .before .before .loop .inv .3) (subst (λ (d : ℕ). d < 10) (c .before .before .digit-of .ensures) (omega arith)), omega arith)
+loop-again c =
+    let l = c .before .before .before .before .before .loop in
+    (omega arith, l .inv .1, value-more _ _ _ _ (l .inv .2) (c .before .before .digit-of .ensures), digits-more _ _ (l .inv .3) (subst (λ (d : ℕ). d < 10) (c .before .before .digit-of .ensures) (omega arith)), omega arith)
 
 returns-4 : tie.Need-returns-4 Inv-loop μ-loop
 returns-4 c = let i = c .before .loop .inv in sym (spelled _ _ _ (omega arith) (i .1) (i .2) (i .3) (i .4))

@@ -9,23 +9,33 @@ use Rattle.contents.proofs.read_full.Tie as tie
 
 returns : tie.Need-returns
 unfolding toldFull
-returns c = sym (ap toldFull (full-empty (between (c .before .before .args .least) (c .before .before .args .most)) (c .before .before .args .place) (c .before .before .args .s .now) (c .if1 .taken)))
+returns c =
+    let a = c .before .before .args in
+    sym (ap toldFull (full-empty (between (a .least) (a .most)) (a .place) (a .s .now) (c .if1 .taken)))
 
 returns-2 : tie.Need-returns-2
 unfolding toldFull
-returns-2 c = sym (ap toldFull (full-version (between (c .before .before .before .before .args .least) (c .before .before .before .before .args .most)) (c .before .before .before .before .args .place) (c .before .before .before .before .args .s .now) (c .before .before .if1 .left) (between-low _ _ _ _ (c .before .be8 .ensures) (c .if2 .taken))))
+returns-2 c =
+    let a = c .before .before .before .before .args in
+    sym (ap toldFull (full-version (between (a .least) (a .most)) (a .place) (a .s .now) (c .before .before .if1 .left) (between-low _ _ _ _ (c .before .be8 .ensures) (c .if2 .taken))))
 
 returns-3 : tie.Need-returns-3
 unfolding toldFull
-returns-3 c = sym (ap toldFull (full-version (between (c .before .before .before .before .before .args .least) (c .before .before .before .before .before .args .most)) (c .before .before .before .before .before .args .place) (c .before .before .before .before .before .args .s .now) (c .before .before .before .if1 .left) (between-high _ _ _ _ (c .before .before .be8 .ensures) (c .if3 .taken))))
+returns-3 c =
+    let a = c .before .before .before .before .before .args in
+    sym (ap toldFull (full-version (between (a .least) (a .most)) (a .place) (a .s .now) (c .before .before .before .if1 .left) (between-high _ _ _ _ (c .before .before .be8 .ensures) (c .if3 .taken))))
 
 returns-4 : tie.Need-returns-4
 unfolding toldFull
-returns-4 c = sym (ap toldFull (full-cut (between (c .before .before .before .before .before .before .args .least) (c .before .before .before .before .before .before .args .most)) (c .before .before .before .before .before .before .args .place) (c .before .before .before .before .before .before .args .s .now) (c .before .before .before .before .if1 .left) (between-in _ _ _ _ (c .before .before .before .be8 .ensures) (c .before .before .if2 .left) (c .before .if3 .left)) (c .if4 .taken)))
+returns-4 c =
+    let a = c .before .before .before .before .before .before .args in
+    sym (ap toldFull (full-cut (between (a .least) (a .most)) (a .place) (a .s .now) (c .before .before .before .before .if1 .left) (between-in _ _ _ _ (c .before .before .before .be8 .ensures) (c .before .before .if2 .left) (c .before .if3 .left)) (c .if4 .taken)))
 
 returns-5 : tie.Need-returns-5
 unfolding toldFull
-returns-5 c = rw (c .before .before .before .before .be8 .ensures, c .be24 .ensures) (sym (ap toldFull (full-is (between (c .before .before .before .before .before .before .before .args .least) (c .before .before .before .before .before .before .before .args .most)) (c .before .before .before .before .before .before .before .args .place) (c .before .before .before .before .before .before .before .args .s .now) (c .before .if4 .left) (between-in _ _ _ _ (c .before .before .before .before .be8 .ensures) (c .before .before .before .if2 .left) (c .before .before .if3 .left)))))
+returns-5 c =
+    let a = c .before .before .before .before .before .before .before .args in
+    rw (c .before .before .before .before .be8 .ensures, c .be24 .ensures) (sym (ap toldFull (full-is (between (a .least) (a .most)) (a .place) (a .s .now) (c .before .if4 .left) (between-in _ _ _ _ (c .before .before .before .before .be8 .ensures) (c .before .before .before .if2 .left) (c .before .before .if3 .left)))))
 
 pub read-full-spec : {M : Type 1} → statement M
 read-full-spec = tie.close (tie.spec returns (search needs) returns-2 returns-3 returns-4 (search needs) returns-5)

@@ -20,7 +20,9 @@ slice-aggregate-deepen : tie.Need-slice-aggregate-deepen Inv-loop μ-loop
 slice-aggregate-deepen c = sym (c .before .before .loop .inv .1)
 
 deepen-requires : tie.Need-deepen-requires Inv-loop μ-loop
-deepen-requires c κs = (c .before .before .before .before .before .pre .0, omega (arith, c .before .before .before .before .before .pre .0, c .before .before .loop .inv .1), c .before .before .loop .inv .2 .low, c .before .before .before .before .before .pre .1)
+deepen-requires c κs =
+    let p = c .before .before .before .before .before .pre in
+    (p .0, omega (arith, p .0, c .before .before .loop .inv .1), c .before .before .loop .inv .2 .low, p .1)
 
 loop-again : tie.Need-loop-again Inv-loop μ-loop
 loop-again c =

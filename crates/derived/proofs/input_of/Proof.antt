@@ -6,7 +6,9 @@ use Rattle.derived.proofs.input_of.Statement.{statement}
 use Rattle.derived.proofs.input_of.Tie as tie
 
 returns : tie.Need-returns
-returns c = λ head pl f v w h l. input-row v (c .before .before .before .before .before .args .row .0) h (c .before .before .before .before .before .args .rows .now) w (c .before .before .before .before .before .args .j) l _ _ (c .before .before .record-word .ensures) (c .word .ensures)
+returns c =
+    let a = c .before .before .before .before .before .args in
+    λ head pl f v w h l. input-row v (a .row .0) h (a .rows .now) w (a .j) l _ _ (c .before .before .record-word .ensures) (c .word .ensures)
 
 returns-2 : tie.Need-returns-2
 returns-2 c = λ head pl f v w h l. absurd (omega (arith, inputs-few v (c .before .before .before .before .args .row .0) h))

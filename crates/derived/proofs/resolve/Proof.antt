@@ -37,7 +37,9 @@ loop-again c =
     (omega arith, simp length-set (q .inv .1), omega arith, λ head pl f v. resolved-more (c .before .before .before .before .before .before .before .before .before .args .table .now) (q .rows) f (q .k) _ _ l (c .before .word2 .ensures) (c .row-or-end .ensures head pl f v) (q .inv .3 head pl f v))
 
 returns-3 : tie.Need-returns-3 Inv-loop μ-loop
-returns-3 c = λ head pl f v. resolved-all v (c .before .loop .rows) _ (c .before .loop .k) (c .before .before .before .word .ensures) (omega arith) (c .before .loop .inv .3 head pl f v)
+returns-3 c =
+    let l = c .before .loop in
+    λ head pl f v. resolved-all v (l .rows) _ (l .k) (c .before .before .before .word .ensures) (omega arith) (l .inv .3 head pl f v)
 
 pub resolve-spec : {M : Type 1} → statement M
 resolve-spec =

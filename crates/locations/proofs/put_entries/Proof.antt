@@ -22,9 +22,10 @@ loop-holds c =
 
 put-entry-requires : tie.Need-put-entry-requires Inv-loop μ-loop
 put-entry-requires c κs =
+    let p = c .before .before .before .before .before .pre in
     let h = c .before .before .loop .inv in
     let e = h .kept .same-length in
-    (h .room, c .before .before .before .before .before .pre .1, h .few, c .before .before .before .before .before .pre .2, rw e (c .before .before .before .before .before .pre .3))
+    (h .room, p .1, h .few, p .2, rw e (p .3))
 
 same-length : tie.Need-same-length Inv-loop μ-loop
 same-length c =
@@ -62,6 +63,7 @@ add-hope c =
 
 loop-again : tie.Need-loop-again Inv-loop μ-loop
 loop-again c =
+    let p = c .before .before .before .before .before .before .before .before .before .before .before .pre in
     let a = c .before .before .before .before .before .before .before .before .before .before .before .args in
     let l = c .before .before .before .before .before .before .before .before .loop in
     let e = c .before .before .before .before .before .put-entry in
@@ -69,7 +71,7 @@ loop-again c =
     let z = subst (PutAre (l .table) u (a .n) (a .w) (l .used) (a .place) (a .s .now) (l .at) (a .idat)) (c .before .t2 .given .1) (e .ensures) in
     so-again (a .s .now) (a .from) (a .count) (a .w) (a .place) (a .n) (a .idat) (a .table .now)
     (l .table) u (l .at) (l .used) (l .i) (l .inv) (c .before .before .before .before .before .before .before .loop-test .taken)
-    (c .before .before .before .before .before .before .before .before .before .before .before .pre .2) (c .before .before .before .before .before .before .before .before .before .before .before .pre .3) (c .before .before .before .before .before .before .before .before .before .before .before .pre .4 .distinct) _ _ _ z
+    (p .2) (p .3) (p .4 .distinct) _ _ _ z
 
 same-length-2 : tie.Need-same-length-2 Inv-loop μ-loop
 same-length-2 c = c .before .before .loop .inv .kept .same-length

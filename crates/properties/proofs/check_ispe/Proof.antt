@@ -10,10 +10,14 @@ use Rattle.properties.proofs.check_ispe.Tie as tie
 
 returns : tie.Need-returns
 unfolding toldChecked
-returns c = sym (ap toldChecked (ispe-gone (c .before .before .before .before .before .args .place) (c .before .before .before .before .before .args .s .now) _ _ (full-gone (upto 0) (c .before .before .before .before .before .args .place) (c .before .before .before .before .before .args .s .now) _ _ (sym (c .before .before .before .read-full .ensures) ∙ c .before .h .given .1))))
+returns c =
+    let a = c .before .before .before .before .before .args in
+    sym (ap toldChecked (ispe-gone (a .place) (a .s .now) _ _ (full-gone (upto 0) (a .place) (a .s .now) _ _ (sym (c .before .before .before .read-full .ensures) ∙ c .before .h .given .1))))
 
 returns-2 : tie.Need-returns-2
-returns-2 c = c .has-length .ensures ∙ sym (ap toldChecked (ispe-here (c .before .before .before .before .before .args .place) (c .before .before .before .before .before .args .s .now) _ _ (full-here (upto 0) (c .before .before .before .before .before .args .place) (c .before .before .before .before .before .args .s .now) _ _ (sym (c .before .before .before .read-full .ensures) ∙ c .before .enum-told .given .1))))
+returns-2 c =
+    let a = c .before .before .before .before .before .args in
+    c .has-length .ensures ∙ sym (ap toldChecked (ispe-here (a .place) (a .s .now) _ _ (full-here (upto 0) (a .place) (a .s .now) _ _ (sym (c .before .before .before .read-full .ensures) ∙ c .before .enum-told .given .1))))
 
 pub check-ispe-spec : {M : Type 1} → statement M
 check-ispe-spec = tie.close (tie.spec (search needs) (search needs) (search needs) (search needs) returns returns-2)

@@ -7,20 +7,30 @@ use Rattle.properties.proofs.check_property.Statement.{statement}
 use Rattle.properties.proofs.check_property.Tie as tie
 
 returns : tie.Need-returns
-returns c = c .check-ispe .ensures ∙ sym (ap toldChecked (held-ispe (c .before .before .before .args .kind) (c .before .before .before .args .place) (c .before .before .before .args .s .now) (c .before .match .keys1)))
+returns c =
+    let a = c .before .before .before .args in
+    c .check-ispe .ensures ∙ sym (ap toldChecked (held-ispe (a .kind) (a .place) (a .s .now) (c .before .match .keys1)))
 
 returns-2 : tie.Need-returns-2
-returns-2 c = c .has-length .ensures ∙ sym (ap toldChecked (held-clap (c .before .before .before .args .kind) (c .before .before .before .args .place) (c .before .before .before .args .s .now) (c .before .match .keys2)))
+returns-2 c =
+    let a = c .before .before .before .args in
+    c .has-length .ensures ∙ sym (ap toldChecked (held-clap (a .kind) (a .place) (a .s .now) (c .before .match .keys2)))
 
 returns-3 : tie.Need-returns-3
-returns-3 c = c .has-length2 .ensures ∙ sym (ap toldChecked (held-irot (c .before .before .before .args .kind) (c .before .before .before .args .place) (c .before .before .before .args .s .now) (c .before .match .keys3)))
+returns-3 c =
+    let a = c .before .before .before .args in
+    c .has-length2 .ensures ∙ sym (ap toldChecked (held-irot (a .kind) (a .place) (a .s .now) (c .before .match .keys3)))
 
 returns-4 : tie.Need-returns-4
-returns-4 c = c .has-length3 .ensures ∙ sym (ap toldChecked (held-imir (c .before .before .before .args .kind) (c .before .before .before .args .place) (c .before .before .before .args .s .now) (c .before .match .keys4)))
+returns-4 c =
+    let a = c .before .before .before .args in
+    c .has-length3 .ensures ∙ sym (ap toldChecked (held-imir (a .kind) (a .place) (a .s .now) (c .before .match .keys4)))
 
 returns-5 : tie.Need-returns-5
 unfolding toldChecked
-returns-5 c = sym (ap toldChecked (held-other (c .before .before .args .kind) (c .before .before .args .place) (c .before .before .args .s .now) (c .match .rest .0 .0 .0 .1) (c .match .rest .0 .0 .1) (c .match .rest .0 .1) (c .match .rest .1)))
+returns-5 c =
+    let a = c .before .before .args in
+    sym (ap toldChecked (held-other (a .kind) (a .place) (a .s .now) (c .match .rest .0 .0 .0 .1) (c .match .rest .0 .0 .1) (c .match .rest .0 .1) (c .match .rest .1)))
 
 pub check-property-spec : {M : Type 1} → statement M
 check-property-spec =

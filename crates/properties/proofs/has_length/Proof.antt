@@ -7,11 +7,15 @@ use Rattle.properties.proofs.has_length.Tie as tie
 
 returns : tie.Need-returns
 unfolding toldChecked
-returns c = sym (ap toldChecked (bytes-whole (c .before .args .n) (c .before .args .place) (c .before .args .s .now) (c .if1 .taken)))
+returns c =
+    let a = c .before .args in
+    sym (ap toldChecked (bytes-whole (a .n) (a .place) (a .s .now) (c .if1 .taken)))
 
 returns-2 : tie.Need-returns-2
 unfolding toldChecked
-returns-2 c = sym (ap toldChecked (bytes-other (c .before .args .n) (c .before .args .place) (c .before .args .s .now) (c .if1 .left)))
+returns-2 c =
+    let a = c .before .args in
+    sym (ap toldChecked (bytes-other (a .n) (a .place) (a .s .now) (c .if1 .left)))
 
 pub has-length-spec : {M : Type 1} → statement M
 has-length-spec = tie.close (tie.spec returns returns-2)

@@ -6,16 +6,24 @@ use Rattle.properties.proofs.put_list.Statement.{statement}
 use Rattle.properties.proofs.put_list.Tie as tie
 
 returns : tie.Need-returns
-returns c = (count-short (c .before .before .before .args .used) (c .before .before .before .args .f .most) (c .before .before .before .args .f .word) (c .before .before .before .args .place) (c .before .before .before .args .s .now) (c .before .before .before .args .at) (c .before .before .before .pre .0) (c .if1 .taken), kept-self _)
+returns c =
+    let a = c .before .before .before .args in
+    (count-short (a .used) (a .f .most) (a .f .word) (a .place) (a .s .now) (a .at) (c .before .before .before .pre .0) (c .if1 .taken), kept-self _)
 
 returns-2 : tie.Need-returns-2
-returns-2 c = (count-many (c .before .before .before .before .before .args .used) (c .before .before .before .before .before .args .f .most) (c .before .before .before .before .before .args .f .word) (c .before .before .before .before .before .args .place) (c .before .before .before .before .before .args .s .now) (c .before .before .before .before .before .args .at) (c .before .before .if1 .left) (c .before .be8 .result) (c .before .be8 .ensures) (c .if2 .taken), kept-self _)
+returns-2 c =
+    let a = c .before .before .before .before .before .args in
+    (count-many (a .used) (a .f .most) (a .f .word) (a .place) (a .s .now) (a .at) (c .before .before .if1 .left) (c .before .be8 .result) (c .before .be8 .ensures) (c .if2 .taken), kept-self _)
 
 returns-3 : tie.Need-returns-3
-returns-3 c = list-refused (c .before .before .before .before .before .before .before .before .before .before .before .before .args .used) (c .before .before .before .before .before .before .before .before .before .before .before .before .args .f .most) (c .before .before .before .before .before .before .before .before .before .before .before .before .args .f .word) (c .before .before .before .before .before .before .before .before .before .before .before .before .args .place) (c .before .before .before .before .before .before .before .before .before .before .before .before .args .s .now) (c .before .before .before .before .before .before .before .before .before .before .before .before .args .at) (c .before .before .before .before .before .before .before .before .before .if1 .left) (c .before .before .before .before .before .before .before .before .be8 .result) (c .before .before .before .before .before .before .before .before .be8 .ensures) (c .before .before .before .before .before .before .before .if2 .left) (c .before .before .before .before .before .before .before .before .before .before .before .before .args .row .0) (c .before .before .before .before .before .before .before .before .before .before .before .before .args .table .now) _ _ (c .before .before .before .before .before .put-associations .ensures) _ (c .before .p .given .1)
+returns-3 c =
+    let a = c .before .before .before .before .before .before .before .before .before .before .before .before .args in
+    list-refused (a .used) (a .f .most) (a .f .word) (a .place) (a .s .now) (a .at) (c .before .before .before .before .before .before .before .before .before .if1 .left) (c .before .before .before .before .before .before .before .before .be8 .result) (c .before .before .before .before .before .before .before .before .be8 .ensures) (c .before .before .before .before .before .before .before .if2 .left) (a .row .0) (a .table .now) _ _ (c .before .before .before .before .before .put-associations .ensures) _ (c .before .p .given .1)
 
 returns-4 : tie.Need-returns-4
-returns-4 c = list-put (c .before .before .before .before .before .before .before .before .before .before .before .before .before .before .before .before .args .used) (c .before .before .before .before .before .before .before .before .before .before .before .before .before .before .before .before .args .f .most) (c .before .before .before .before .before .before .before .before .before .before .before .before .before .before .before .before .args .f .word) (c .before .before .before .before .before .before .before .before .before .before .before .before .before .before .before .before .args .place) (c .before .before .before .before .before .before .before .before .before .before .before .before .before .before .before .before .args .s .now) (c .before .before .before .before .before .before .before .before .before .before .before .before .before .before .before .before .args .at) (c .before .before .before .before .before .before .before .before .before .before .before .before .before .if1 .left) (c .before .before .before .before .before .before .before .before .before .before .before .before .be8 .result) (c .before .before .before .before .before .before .before .before .before .before .before .before .be8 .ensures) (c .before .before .before .before .before .before .before .before .before .before .before .if2 .left) (c .before .before .before .before .before .before .before .before .before .before .before .before .before .before .before .before .args .row .0) (c .before .before .before .before .before .before .before .before .before .before .before .before .before .before .before .before .args .table .now) _ _ (c .before .before .before .before .before .before .before .before .before .put-associations .ensures) _ (c .before .before .before .before .before .p2 .given .1) _ (c .before .before .put-span .ensures)
+returns-4 c =
+    let a = c .before .before .before .before .before .before .before .before .before .before .before .before .before .before .before .before .args in
+    list-put (a .used) (a .f .most) (a .f .word) (a .place) (a .s .now) (a .at) (c .before .before .before .before .before .before .before .before .before .before .before .before .before .if1 .left) (c .before .before .before .before .before .before .before .before .before .before .before .before .be8 .result) (c .before .before .before .before .before .before .before .before .before .before .before .before .be8 .ensures) (c .before .before .before .before .before .before .before .before .before .before .before .if2 .left) (a .row .0) (a .table .now) _ _ (c .before .before .before .before .before .before .before .before .before .put-associations .ensures) _ (c .before .before .before .before .before .p2 .given .1) _ (c .before .before .put-span .ensures)
 
 pub put-list-spec : {M : Type 1} → statement M
 put-list-spec =

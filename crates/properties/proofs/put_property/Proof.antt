@@ -7,7 +7,9 @@ use Rattle.properties.proofs.put_property.Statement.{statement}
 use Rattle.properties.proofs.put_property.Tie as tie
 
 returns : tie.Need-returns
-returns c = four-stores (c .before .before .args .table .now) _ _ (c .before .before .args .kind) (c .before .before .args .offset) (c .before .before .args .size) 0 (c .property .ensures)
+returns c =
+    let a = c .before .before .args in
+    four-stores (a .table .now) _ _ (a .kind) (a .offset) (a .size) 0 (c .property .ensures)
 
 pub put-property-spec : {M : Type 1} → statement M
 put-property-spec =

@@ -9,10 +9,14 @@ use Rattle.properties.proofs.read_names.Statement.{statement}
 use Rattle.properties.proofs.read_names.Tie as tie
 
 returns : tie.Need-returns
-returns c = read-short (c .before .before .before .before .before .before .before .args .table .now) (c .before .before .before .before .before .before .before .args .n) (c .before .before .before .before .before .before .before .args .most) (c .before .before .before .before .before .before .before .args .place) (c .before .before .before .before .before .before .before .args .s .now) _ (c .before .before .before .before .read-full .ensures) _ _ (c .before .before .h2 .given .1) (c .if1 .taken)
+returns c =
+    let a = c .before .before .before .before .before .before .before .args in
+    read-short (a .table .now) (a .n) (a .most) (a .place) (a .s .now) _ (c .before .before .before .before .read-full .ensures) _ _ (c .before .before .h2 .given .1) (c .if1 .taken)
 
 returns-2 : tie.Need-returns-2
-returns-2 c = read-many (c .before .before .before .before .before .before .before .before .before .args .table .now) (c .before .before .before .before .before .before .before .before .before .args .n) (c .before .before .before .before .before .before .before .before .before .args .most) (c .before .before .before .before .before .before .before .before .before .args .place) (c .before .before .before .before .before .before .before .before .before .args .s .now) _ (c .before .before .before .before .before .before .read-full .ensures) _ _ (c .before .before .before .before .h2 .given .1) (c .before .before .if1 .left) _ (c .before .be32 .ensures) (c .if2 .taken)
+returns-2 c =
+    let a = c .before .before .before .before .before .before .before .before .before .args in
+    read-many (a .table .now) (a .n) (a .most) (a .place) (a .s .now) _ (c .before .before .before .before .before .before .read-full .ensures) _ _ (c .before .before .before .before .h2 .given .1) (c .before .before .if1 .left) _ (c .before .be32 .ensures) (c .if2 .taken)
 
 put-names-requires : tie.Need-put-names-requires
 put-names-requires c κs = (c .before .before .before .before .if1 .left, inr refl, c .before .before .before .before .before .before .before .before .before .before .before .pre .0, c .before .before .before .before .before .before .before .before .before .before .before .pre .1)
@@ -26,7 +30,9 @@ returns-3 c =
     read-entries (a .table .now) (a .n) (a .most) (a .place) (a .s .now) _ (c .before .before .before .before .before .before .before .before .before .before .before .read-full .ensures) _ _ (c .before .before .before .before .before .before .before .before .before .h2 .given .1) (c .before .before .before .before .before .before .before .if1 .left) _ (c .before .before .before .before .before .before .be32 .ensures) (c .before .before .before .before .before .if2 .left) 2 (sym (pick-yes _ _ (eq-eqb _ _ (c .before .before .before .before .if3 .taken)))) _ _ (c .before .before .put-names .ensures)
 
 returns-4 : tie.Need-returns-4
-returns-4 c = read-gone (c .before .before .before .before .before .before .args .table .now) (c .before .before .before .before .before .before .args .n) (c .before .before .before .before .before .before .args .most) (c .before .before .before .before .before .before .args .place) (c .before .before .before .before .before .before .args .s .now) _ (c .before .before .before .read-full .ensures) _ (c .before .h .given .1)
+returns-4 c =
+    let a = c .before .before .before .before .before .before .args in
+    read-gone (a .table .now) (a .n) (a .most) (a .place) (a .s .now) _ (c .before .before .before .read-full .ensures) _ (c .before .h .given .1)
 
 returns-5 : tie.Need-returns-5
 returns-5 c =

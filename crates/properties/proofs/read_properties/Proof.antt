@@ -18,52 +18,85 @@ add-here : tie.Need-add-here Inv-loop μ-loop
 add-here c = omega (arith, c .before .loop .inv .here)
 
 sub-add-property : tie.Need-sub-add-property Inv-loop μ-loop
-sub-add-property c = let w = properties-further (c .before .before .before .before .before .before .before .args .s .now) (c .before .before .before .before .before .before .before .args .place) (c .before .before .before .before .before .before .before .args .base) (c .before .before .before .before .before .before .before .args .table .now) (c .before .before .before .before .loop .table) (c .before .before .before .before .loop .at) (c .before .before .before .before .loop .n) (c .before .before .before .before .loop .inv) (c .before .c .given .0 .0) (c .before .c .given .0 .1 .0) (c .before .c .given .0 .1 .1 .0) (sym (c .before .before .before .child-at .ensures) ∙ c .before .c .given .1) in omega arith
+sub-add-property c =
+    let a = c .before .before .before .before .before .before .before .args in
+    let l = c .before .before .before .before .loop in
+    let w = properties-further (a .s .now) (a .place) (a .base) (a .table .now) (l .table) (l .at) (l .n) (l .inv) (c .before .c .given .0 .0) (c .before .c .given .0 .1 .0) (c .before .c .given .0 .1 .1 .0) (sym (c .before .before .before .child-at .ensures) ∙ c .before .c .given .1) in omega arith
 
 part-add-property-start : tie.Need-part-add-property-start Inv-loop μ-loop
-part-add-property-start c = let w = properties-further (c .before .before .before .before .before .before .before .args .s .now) (c .before .before .before .before .before .before .before .args .place) (c .before .before .before .before .before .before .before .args .base) (c .before .before .before .before .before .before .before .args .table .now) (c .before .before .before .before .loop .table) (c .before .before .before .before .loop .at) (c .before .before .before .before .loop .n) (c .before .before .before .before .loop .inv) (c .before .c .given .0 .0) (c .before .c .given .0 .1 .0) (c .before .c .given .0 .1 .1 .0) (sym (c .before .before .before .child-at .ensures) ∙ c .before .c .given .1) in omega arith
+part-add-property-start c =
+    let a = c .before .before .before .before .before .before .before .args in
+    let l = c .before .before .before .before .loop in
+    let w = properties-further (a .s .now) (a .place) (a .base) (a .table .now) (l .table) (l .at) (l .n) (l .inv) (c .before .c .given .0 .0) (c .before .c .given .0 .1 .0) (c .before .c .given .0 .1 .1 .0) (sym (c .before .before .before .child-at .ensures) ∙ c .before .c .given .1) in omega arith
 
 part-add-property-end : tie.Need-part-add-property-end Inv-loop μ-loop
-part-add-property-end c = let w = properties-further (c .before .before .before .before .before .before .before .args .s .now) (c .before .before .before .before .before .before .before .args .place) (c .before .before .before .before .before .before .before .args .base) (c .before .before .before .before .before .before .before .args .table .now) (c .before .before .before .before .loop .table) (c .before .before .before .before .loop .at) (c .before .before .before .before .loop .n) (c .before .before .before .before .loop .inv) (c .before .c .given .0 .0) (c .before .c .given .0 .1 .0) (c .before .c .given .0 .1 .1 .0) (sym (c .before .before .before .child-at .ensures) ∙ c .before .c .given .1) in omega arith
+part-add-property-end c =
+    let a = c .before .before .before .before .before .before .before .args in
+    let l = c .before .before .before .before .loop in
+    let w = properties-further (a .s .now) (a .place) (a .base) (a .table .now) (l .table) (l .at) (l .n) (l .inv) (c .before .c .given .0 .0) (c .before .c .given .0 .1 .0) (c .before .c .given .0 .1 .1 .0) (sym (c .before .before .before .child-at .ensures) ∙ c .before .c .given .1) in omega arith
 
 sub-add-property-2 : tie.Need-sub-add-property-2 Inv-loop μ-loop
-sub-add-property-2 c = let w = properties-further (c .before .before .before .before .before .before .before .before .args .s .now) (c .before .before .before .before .before .before .before .before .args .place) (c .before .before .before .before .before .before .before .before .args .base) (c .before .before .before .before .before .before .before .before .args .table .now) (c .before .before .before .before .before .loop .table) (c .before .before .before .before .before .loop .at) (c .before .before .before .before .before .loop .n) (c .before .before .before .before .before .loop .inv) (c .before .before .c .given .0 .0) (c .before .before .c .given .0 .1 .0) (c .before .before .c .given .0 .1 .1 .0) (sym (c .before .before .before .before .child-at .ensures) ∙ c .before .before .c .given .1) in omega arith
+sub-add-property-2 c =
+    let a = c .before .before .before .before .before .before .before .before .args in
+    let l = c .before .before .before .before .before .loop in
+    let w = properties-further (a .s .now) (a .place) (a .base) (a .table .now) (l .table) (l .at) (l .n) (l .inv) (c .before .before .c .given .0 .0) (c .before .before .c .given .0 .1 .0) (c .before .before .c .given .0 .1 .1 .0) (sym (c .before .before .before .before .child-at .ensures) ∙ c .before .before .c .given .1) in omega arith
 
 add-property-requires : tie.Need-add-property-requires Inv-loop μ-loop
-add-property-requires c κs = let w = properties-further (c .before .before .before .before .before .before .before .before .before .args .s .now) (c .before .before .before .before .before .before .before .before .before .args .place) (c .before .before .before .before .before .before .before .before .before .args .base) (c .before .before .before .before .before .before .before .before .before .args .table .now) (c .before .before .before .before .before .before .loop .table) (c .before .before .before .before .before .before .loop .at) (c .before .before .before .before .before .before .loop .n) (c .before .before .before .before .before .before .loop .inv) (c .before .before .before .c .given .0 .0) (c .before .before .before .c .given .0 .1 .0) (c .before .before .before .c .given .0 .1 .1 .0) (sym (c .before .before .before .before .before .child-at .ensures) ∙ c .before .before .before .c .given .1) in (omega (arith, c .before .before .before .before .before .before .loop .inv .here), omega arith, c .before .before .before .before .before .before .loop .inv .few, omega (arith, c .before .before .before .before .before .before .loop .inv .kept .kept .same-length))
+add-property-requires c κs =
+    let a = c .before .before .before .before .before .before .before .before .before .args in
+    let l = c .before .before .before .before .before .before .loop in
+    let w = properties-further (a .s .now) (a .place) (a .base) (a .table .now) (l .table) (l .at) (l .n) (l .inv) (c .before .before .before .c .given .0 .0) (c .before .before .before .c .given .0 .1 .0) (c .before .before .before .c .given .0 .1 .1 .0) (sym (c .before .before .before .before .before .child-at .ensures) ∙ c .before .before .before .c .given .1) in (omega (arith, l .inv .here), omega arith, l .inv .few, omega (arith, l .inv .kept .kept .same-length))
 
 same-length : tie.Need-same-length Inv-loop μ-loop
 same-length c = c .before .before .before .before .before .add-property .kept .1 .1 .1 .1 .0 ∙ c .before .before .before .before .before .before .before .before .before .before .before .before .loop .inv .kept .kept .same-length
 
 returns : tie.Need-returns Inv-loop μ-loop
-returns c = properties-held (c .before .before .before .before .before .before .before .before .before .before .before .before .before .before .before .args .s .now) (c .before .before .before .before .before .before .before .before .before .before .before .before .before .before .before .args .place) (c .before .before .before .before .before .before .before .before .before .before .before .before .before .before .before .args .base) (c .before .before .before .before .before .before .before .before .before .before .before .before .before .before .before .args .table .now) (c .before .before .before .before .before .before .before .before .before .before .before .before .loop .table) (c .before .before .before .before .before .before .before .before .before .before .before .before .loop .at) (c .before .before .before .before .before .before .before .before .before .before .before .before .loop .n) (c .before .before .before .before .before .before .before .before .before .before .before .before .loop .inv) (c .before .before .before .before .before .before .before .before .before .c .given .0 .0) (c .before .before .before .before .before .before .before .before .before .c .given .0 .1 .0) (c .before .before .before .before .before .before .before .before .before .c .given .0 .1 .1 .0) (sym (c .before .before .before .before .before .before .before .before .before .before .before .child-at .ensures) ∙ c .before .before .before .before .before .before .before .before .before .c .given .1) _ _ (c .before .before .before .before .before .add-property .ensures) _ (c .before .k .given .1)
+returns c =
+    let a = c .before .before .before .before .before .before .before .before .before .before .before .before .before .before .before .args in
+    let l = c .before .before .before .before .before .before .before .before .before .before .before .before .loop in
+    properties-held (a .s .now) (a .place) (a .base) (a .table .now) (l .table) (l .at) (l .n) (l .inv) (c .before .before .before .before .before .before .before .before .before .c .given .0 .0) (c .before .before .before .before .before .before .before .before .before .c .given .0 .1 .0) (c .before .before .before .before .before .before .before .before .before .c .given .0 .1 .1 .0) (sym (c .before .before .before .before .before .before .before .before .before .before .before .child-at .ensures) ∙ c .before .before .before .before .before .before .before .before .before .c .given .1) _ _ (c .before .before .before .before .before .add-property .ensures) _ (c .before .k .given .1)
 
 add-n : tie.Need-add-n Inv-loop μ-loop
 add-n c = omega (arith, c .before .before .before .before .before .before .before .before .before .before .before .loop .inv .few)
 
 loop-less : tie.Need-loop-less Inv-loop μ-loop
-loop-less c = let w = properties-further (c .before .before .before .before .before .before .before .before .before .before .before .before .before .before .args .s .now) (c .before .before .before .before .before .before .before .before .before .before .before .before .before .before .args .place) (c .before .before .before .before .before .before .before .before .before .before .before .before .before .before .args .base) (c .before .before .before .before .before .before .before .before .before .before .before .before .before .before .args .table .now) (c .before .before .before .before .before .before .before .before .before .before .before .loop .table) (c .before .before .before .before .before .before .before .before .before .before .before .loop .at) (c .before .before .before .before .before .before .before .before .before .before .before .loop .n) (c .before .before .before .before .before .before .before .before .before .before .before .loop .inv) (c .before .before .before .before .before .before .before .before .c .given .0 .0) (c .before .before .before .before .before .before .before .before .c .given .0 .1 .0) (c .before .before .before .before .before .before .before .before .c .given .0 .1 .1 .0) (sym (c .before .before .before .before .before .before .before .before .before .before .child-at .ensures) ∙ c .before .before .before .before .before .before .before .before .c .given .1) in omega arith
+loop-less c =
+    let a = c .before .before .before .before .before .before .before .before .before .before .before .before .before .before .args in
+    let l = c .before .before .before .before .before .before .before .before .before .before .before .loop in
+    let w = properties-further (a .s .now) (a .place) (a .base) (a .table .now) (l .table) (l .at) (l .n) (l .inv) (c .before .before .before .before .before .before .before .before .c .given .0 .0) (c .before .before .before .before .before .before .before .before .c .given .0 .1 .0) (c .before .before .before .before .before .before .before .before .c .given .0 .1 .1 .0) (sym (c .before .before .before .before .before .before .before .before .before .before .child-at .ensures) ∙ c .before .before .before .before .before .before .before .before .c .given .1) in omega arith
 
 loop-again : tie.Need-loop-again Inv-loop μ-loop
-loop-again c = properties-more (c .before .before .before .before .before .before .before .before .before .before .before .before .before .before .args .s .now) (c .before .before .before .before .before .before .before .before .before .before .before .before .before .before .args .place) (c .before .before .before .before .before .before .before .before .before .before .before .before .before .before .args .base) (c .before .before .before .before .before .before .before .before .before .before .before .before .before .before .args .table .now) (c .before .before .before .before .before .before .before .before .before .before .before .loop .table) (c .before .before .before .before .before .before .before .before .before .before .before .loop .at) (c .before .before .before .before .before .before .before .before .before .before .before .loop .n) (c .before .before .before .before .before .before .before .before .before .before .before .loop .inv) (c .before .before .before .before .before .before .before .before .c .given .0 .0) (c .before .before .before .before .before .before .before .before .c .given .0 .1 .0) (c .before .before .before .before .before .before .before .before .c .given .0 .1 .1 .0) (sym (c .before .before .before .before .before .before .before .before .before .before .child-at .ensures) ∙ c .before .before .before .before .before .before .before .before .c .given .1) _ _ (c .before .before .before .before .add-property .ensures) (c .enum-told .given .1)
+loop-again c =
+    let a = c .before .before .before .before .before .before .before .before .before .before .before .before .before .before .args in
+    let l = c .before .before .before .before .before .before .before .before .before .before .before .loop in
+    properties-more (a .s .now) (a .place) (a .base) (a .table .now) (l .table) (l .at) (l .n) (l .inv) (c .before .before .before .before .before .before .before .before .c .given .0 .0) (c .before .before .before .before .before .before .before .before .c .given .0 .1 .0) (c .before .before .before .before .before .before .before .before .c .given .0 .1 .1 .0) (sym (c .before .before .before .before .before .before .before .before .before .before .child-at .ensures) ∙ c .before .before .before .before .before .before .before .before .c .given .1) _ _ (c .before .before .before .before .add-property .ensures) (c .enum-told .given .1)
 
 same-length-2 : tie.Need-same-length-2 Inv-loop μ-loop
 same-length-2 c = c .before .before .before .loop .inv .kept .kept .same-length
 
 returns-2 : tie.Need-returns-2 Inv-loop μ-loop
-returns-2 c = properties-bad (c .before .before .before .before .before .before .args .s .now) (c .before .before .before .before .before .before .args .place) (c .before .before .before .before .before .before .args .base) (c .before .before .before .before .before .before .args .table .now) (c .before .before .before .loop .table) (c .before .before .before .loop .at) (c .before .before .before .loop .n) (c .before .before .before .loop .inv) (sym (c .before .before .child-at .ensures) ∙ c .enum-told2 .given .1)
+returns-2 c =
+    let a = c .before .before .before .before .before .before .args in
+    let l = c .before .before .before .loop in
+    properties-bad (a .s .now) (a .place) (a .base) (a .table .now) (l .table) (l .at) (l .n) (l .inv) (sym (c .before .before .child-at .ensures) ∙ c .enum-told2 .given .1)
 
 same-length-3 : tie.Need-same-length-3 Inv-loop μ-loop
 same-length-3 c = c .before .before .before .loop .inv .kept .kept .same-length
 
 returns-3 : tie.Need-returns-3 Inv-loop μ-loop
-returns-3 c = properties-spare (c .before .before .before .before .before .before .args .s .now) (c .before .before .before .before .before .before .args .place) (c .before .before .before .before .before .before .args .base) (c .before .before .before .before .before .before .args .table .now) (c .before .before .before .loop .table) (c .before .before .before .loop .at) (c .before .before .before .loop .n) (c .before .before .before .loop .inv) (sym (c .before .before .child-at .ensures) ∙ c .enum-told3 .given .1)
+returns-3 c =
+    let a = c .before .before .before .before .before .before .args in
+    let l = c .before .before .before .loop in
+    properties-spare (a .s .now) (a .place) (a .base) (a .table .now) (l .table) (l .at) (l .n) (l .inv) (sym (c .before .before .child-at .ensures) ∙ c .enum-told3 .given .1)
 
 same-length-4 : tie.Need-same-length-4 Inv-loop μ-loop
 same-length-4 c = c .before .before .before .loop .inv .kept .kept .same-length
 
 returns-4 : tie.Need-returns-4 Inv-loop μ-loop
-returns-4 c = properties-end (c .before .before .before .before .before .before .args .s .now) (c .before .before .before .before .before .before .args .place) (c .before .before .before .before .before .before .args .base) (c .before .before .before .before .before .before .args .table .now) (c .before .before .before .loop .table) (c .before .before .before .loop .at) (c .before .before .before .loop .n) (c .before .before .before .loop .inv) (sym (c .before .before .child-at .ensures) ∙ c .enum-told4 .given .1)
+returns-4 c =
+    let a = c .before .before .before .before .before .before .args in
+    let l = c .before .before .before .loop in
+    properties-end (a .s .now) (a .place) (a .base) (a .table .now) (l .table) (l .at) (l .n) (l .inv) (sym (c .before .before .child-at .ensures) ∙ c .enum-told4 .given .1)
 
 pub read-properties-spec : {M : Type 1} → statement M
 read-properties-spec =

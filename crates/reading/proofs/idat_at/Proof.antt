@@ -9,7 +9,9 @@ returns : tie.Need-returns
 returns c = λ s st. no-idat-at s (c .before .before .before .args .at) _ st (c .if1 .taken)
 
 add-result : tie.Need-add-result
-add-result c = let h = idat-within (c .before .before .before .pre .0) (c .before .before .before .args .at) _ (c .before .before .before .pre .1) (c .before .before .before .pre .2) in omega arith
+add-result c =
+    let p = c .before .before .before .pre in
+    let h = idat-within (p .0) (c .before .before .before .args .at) _ (p .1) (p .2) in omega arith
 
 returns-2 : tie.Need-returns-2
 returns-2 c = λ s st. an-idat-at s (c .before .before .before .args .at) _ st (c .if1 .left)

@@ -24,16 +24,26 @@ add-read-locations : tie.Need-add-read-locations
 add-read-locations c = let h = iloc-within (c .before .before .before .before .before .args .s .now) (c .before .before .before .before .before .args .at) _ (c .before .before .before .before .before .pre .0) (c .before .before .before .before .before .pre .1) in omega arith
 
 read-locations-requires : tie.Need-read-locations-requires
-read-locations-requires c κs = let k = c .before .before .before .before .before .before .pre .3 .2 .ready in (c .before .before .before .before .before .before .pre .2, omega (arith, k .count, k .bounded .few-items), unplaced (c .before .before .before .before .before .before .args .s .now) (c .before .before .before .before .before .before .args .at) _ (c .before .before .before .before .before .before .pre .0) (c .before .before .before .before .before .before .args .n) (c .before .before .before .before .before .before .pre .3 .0) (c .before .before .before .before .before .before .pre .3 .1) _ (c .before .before .before .before .before .before .pre .3 .2))
+read-locations-requires c κs =
+    let a = c .before .before .before .before .before .before .args in
+    let p = c .before .before .before .before .before .before .pre in
+    let k = p .3 .2 .ready in (p .2, omega (arith, k .count, k .bounded .few-items), unplaced (a .s .now) (a .at) _ (p .0) (a .n) (p .3 .0) (p .3 .1) _ (p .3 .2))
 
 read-iprp-requires : tie.Need-read-iprp-requires
-read-iprp-requires c κs = let o = iloc-on (c .before .before .before .before .before .before .before .before .before .before .before .before .before .args .s .now) (c .before .before .before .before .before .before .before .before .before .before .before .before .before .args .at) _ (c .before .before .before .before .before .before .before .before .before .before .before .before .before .pre .0) (c .before .before .before .before .before .before .before .before .before .before .before .before .before .args .n) (c .before .before .before .before .before .before .before .before .before .before .before .before .before .pre .3 .0) (c .before .before .before .before .before .before .before .before .before .before .before .before .before .pre .3 .1) _ (c .before .before .before .before .before .before .before .before .before .before .before .before .before .pre .3 .2) _ refl _ (sym (c .before .before .before .before .before .before .read-locations .ensures .0) ∙ c .before .before .t2 .given .1) _ (c .before .before .before .before .before .before .before .before .before .idat-at .ensures _ (c .before .before .before .before .before .before .before .before .before .before .before .before .before .pre .0)) _ (c .before .before .before .before .before .before .read-locations .ensures .1) 0 in (c .before .before .before .before .before .before .before .before .before .before .before .before .before .pre .0, c .before .before .before .before .before .before .before .before .before .before .before .before .before .pre .1, omega (arith, c .before .before .before .before .before .before .read-locations .ensures .1 .kept .same-length, c .before .before .before .before .before .before .before .before .before .before .before .before .before .pre .2), ((c .before .before .before .before .before .before .before .before .before .before .before .before .before .pre .3 .0), o .0, (c .before .before .before .before .before .before .before .before .before .before .before .before .before .pre .3 .1), o .1, o .2))
+read-iprp-requires c κs =
+    let a = c .before .before .before .before .before .before .before .before .before .before .before .before .before .args in
+    let p = c .before .before .before .before .before .before .before .before .before .before .before .before .before .pre in
+    let o = iloc-on (a .s .now) (a .at) _ (p .0) (a .n) (p .3 .0) (p .3 .1) _ (p .3 .2) _ refl _ (sym (c .before .before .before .before .before .before .read-locations .ensures .0) ∙ c .before .before .t2 .given .1) _ (c .before .before .before .before .before .before .before .before .before .idat-at .ensures _ (p .0)) _ (c .before .before .before .before .before .before .read-locations .ensures .1) 0 in (p .0, p .1, omega (arith, c .before .before .before .before .before .before .read-locations .ensures .1 .kept .same-length, p .2), ((p .3 .0), o .0, (p .3 .1), o .1, o .2))
 
 returns : tie.Need-returns
-returns c = ((λ is x b. iloc-gone (c .before .before .before .before .before .before .before .before .before .before .before .before .args .s .now) (c .before .before .before .before .before .before .before .before .before .before .before .before .args .at) _ (c .before .before .before .before .before .before .before .before .before .before .before .before .pre .0) (c .before .before .before .before .before .before .before .before .before .before .before .before .args .n) is x _ b _ refl (c .before .before .before .before .before .before .before .before .before .before .before .before .args .total) (c .before .before .before .before .before .before .before .before .before .before .before .before .args .primary .0) _ (sym (c .before .before .before .before .before .read-locations .ensures .0) ∙ c .before .t .given .1) _), c .before .before .before .before .before .read-locations .ensures .1 .kept)
+returns c =
+    let a = c .before .before .before .before .before .before .before .before .before .before .before .before .args in
+    ((λ is x b. iloc-gone (a .s .now) (a .at) _ (c .before .before .before .before .before .before .before .before .before .before .before .before .pre .0) (a .n) is x _ b _ refl (a .total) (a .primary .0) _ (sym (c .before .before .before .before .before .read-locations .ensures .0) ∙ c .before .t .given .1) _), c .before .before .before .before .before .read-locations .ensures .1 .kept)
 
 returns-2 : tie.Need-returns-2
-returns-2 c = ((λ is x b. let o = iloc-on (c .before .before .before .before .before .before .before .before .before .before .before .before .before .before .before .before .args .s .now) (c .before .before .before .before .before .before .before .before .before .before .before .before .before .before .before .before .args .at) _ (c .before .before .before .before .before .before .before .before .before .before .before .before .before .before .before .before .pre .0) (c .before .before .before .before .before .before .before .before .before .before .before .before .before .before .before .before .args .n) is x _ b _ refl _ (sym (c .before .before .before .before .before .before .before .before .before .read-locations .ensures .0) ∙ c .before .before .before .before .before .t2 .given .1) _ (c .before .before .before .before .before .before .before .before .before .before .before .before .idat-at .ensures _ (c .before .before .before .before .before .before .before .before .before .before .before .before .before .before .before .before .pre .0)) _ (c .before .before .before .before .before .before .before .before .before .read-locations .ensures .1) (c .before .before .before .before .before .before .before .before .before .before .before .before .before .before .before .before .args .primary .0) in after-same (c .before .before .before .before .before .before .before .before .before .before .before .before .before .before .before .before .args .s .now) (c .before .before .before .before .before .before .before .before .before .before .before .before .before .before .before .before .args .at) (c .before .before .before .before .before .before .before .before .before .before .before .before .before .before .before .before .args .total) _ _ _ x _ (o .3) (c .before .before .read-iprp .ensures .0 is (o .0) x (o .1) (o .2))), kept-on _ _ _ (c .before .before .before .before .before .before .before .before .before .read-locations .ensures .1 .kept) (c .before .before .read-iprp .ensures .1))
+returns-2 c =
+    let a = c .before .before .before .before .before .before .before .before .before .before .before .before .before .before .before .before .args in
+    ((λ is x b. let o = iloc-on (a .s .now) (a .at) _ (c .before .before .before .before .before .before .before .before .before .before .before .before .before .before .before .before .pre .0) (a .n) is x _ b _ refl _ (sym (c .before .before .before .before .before .before .before .before .before .read-locations .ensures .0) ∙ c .before .before .before .before .before .t2 .given .1) _ (c .before .before .before .before .before .before .before .before .before .before .before .before .idat-at .ensures _ (c .before .before .before .before .before .before .before .before .before .before .before .before .before .before .before .before .pre .0)) _ (c .before .before .before .before .before .before .before .before .before .read-locations .ensures .1) (a .primary .0) in after-same (a .s .now) (a .at) (a .total) _ _ _ x _ (o .3) (c .before .before .read-iprp .ensures .0 is (o .0) x (o .1) (o .2))), kept-on _ _ _ (c .before .before .before .before .before .before .before .before .before .read-locations .ensures .1 .kept) (c .before .before .read-iprp .ensures .1))
 
 pub read-iloc-spec : {M : Type 1} → statement M
 read-iloc-spec =

@@ -9,13 +9,18 @@ use Rattle.reading.proofs.read_last.Statement.{statement}
 use Rattle.reading.proofs.read_last.Tie as tie
 
 put-head-requires : tie.Need-put-head-requires
-put-head-requires c κs = let h = counts-few (c .before .before .before .before .before .args .s .now) (c .before .before .before .before .before .args .at) (c .before .before .before .before .before .args .c) (c .before .before .before .before .before .pre .3 .0) (c .before .before .before .before .before .pre .3 .1) (c .before .before .before .before .before .args .table .now) (c .before .before .before .before .before .pre .3 .2) in (c .before .before .before .before .before .pre .2, h .0, h .1, h .2, h .3, h .4)
+put-head-requires c κs =
+    let a = c .before .before .before .before .before .args in
+    let p = c .before .before .before .before .before .pre in
+    let h = counts-few (a .s .now) (a .at) (a .c) (p .3 .0) (p .3 .1) (a .table .now) (p .3 .2) in (p .2, h .0, h .1, h .2, h .3, h .4)
 
 found-idat-requires : tie.Need-found-idat-requires
 found-idat-requires c κs = (c .before .before .before .before .before .before .before .before .args .s .now, c .before .before .before .before .before .before .before .before .pre .0, c .before .before .before .before .before .before .before .before .pre .1)
 
 returns : tie.Need-returns
-returns c = ((λ f x l. last-none (c .before .before .before .before .before .before .before .before .before .args .s .now) (c .before .before .before .before .before .before .before .before .before .args .at) (c .before .before .before .before .before .before .before .before .before .args .total) (c .before .before .before .before .before .before .before .before .before .args .primary .0) _ (c .before .before .before .before .before .before .before .before .before .pre .0) (c .before .before .before .before .before .before .before .before .before .args .c) f x _ l (c .before .before .before .before .before .if1 .taken) _ (c .before .before .before .put-head .ensures) _ (c .found-idat .ensures _ (c .before .before .before .before .before .before .before .before .before .pre .0))), head-kept _ _ _ _ _ _ _ _ _ _ (c .before .before .before .put-head .ensures))
+returns c =
+    let a = c .before .before .before .before .before .before .before .before .before .args in
+    ((λ f x l. last-none (a .s .now) (a .at) (a .total) (a .primary .0) _ (c .before .before .before .before .before .before .before .before .before .pre .0) (a .c) f x _ l (c .before .before .before .before .before .if1 .taken) _ (c .before .before .before .put-head .ensures) _ (c .found-idat .ensures _ (c .before .before .before .before .before .before .before .before .before .pre .0))), head-kept _ _ _ _ _ _ _ _ _ _ (c .before .before .before .put-head .ensures))
 
 sub-read-references : tie.Need-sub-read-references
 sub-read-references c = let h = iref-within (c .before .before .before .before .args .s .now) (c .before .before .before .before .args .at) _ (c .before .before .before .before .pre .0) (c .before .before .before .before .pre .1) (c .if1 .left) in omega arith
@@ -33,19 +38,29 @@ add-read-references-2 : tie.Need-add-read-references-2
 add-read-references-2 c = let h = iref-within (c .before .before .before .before .before .args .s .now) (c .before .before .before .before .before .args .at) _ (c .before .before .before .before .before .pre .0) (c .before .before .before .before .before .pre .1) (c .before .if1 .left) in omega arith
 
 read-references-requires : tie.Need-read-references-requires
-read-references-requires c κs = let h = iref-within (c .before .before .before .before .before .before .args .s .now) (c .before .before .before .before .before .before .args .at) _ (c .before .before .before .before .before .before .pre .0) (c .before .before .before .before .before .before .pre .1) (c .before .before .if1 .left) in let k = counts-few (c .before .before .before .before .before .before .args .s .now) (c .before .before .before .before .before .before .args .at) (c .before .before .before .before .before .before .args .c) (c .before .before .before .before .before .before .pre .3 .0) (c .before .before .before .before .before .before .pre .3 .1) (c .before .before .before .before .before .before .args .table .now) (c .before .before .before .before .before .before .pre .3 .2) in (((c .before .before .before .before .before .before .pre .2), k .0, part-fits (c .before .before .before .before .before .before .args .s .now) (c .before .before .before .before .before .before .args .at) _ (c .before .before .before .before .before .before .pre .1) h), (ids-distinct (c .before .before .before .before .before .before .args .s .now) (c .before .before .before .before .before .before .args .at) (c .before .before .before .before .before .before .args .c .items) (c .before .before .before .before .before .before .pre .3 .0) (c .before .before .before .before .before .before .pre .3 .1) (c .before .before .before .before .before .before .args .table .now) (c .before .before .before .before .before .before .pre .3 .2 .before), none-derived (c .before .before .before .before .before .before .args .s .now) (c .before .before .before .before .before .before .args .at) (c .before .before .before .before .before .before .args .c .items) (c .before .before .before .before .before .before .pre .3 .0) (c .before .before .before .before .before .before .pre .3 .1) (c .before .before .before .before .before .before .args .table .now) (c .before .before .before .before .before .before .pre .3 .2 .before) (c .before .before .before .before .before .before .pre .3 .2 .none)))
+read-references-requires c κs =
+    let a = c .before .before .before .before .before .before .args in
+    let p = c .before .before .before .before .before .before .pre in
+    let h = iref-within (a .s .now) (a .at) _ (p .0) (p .1) (c .before .before .if1 .left) in let k = counts-few (a .s .now) (a .at) (a .c) (p .3 .0) (p .3 .1) (a .table .now) (p .3 .2) in (((p .2), k .0, part-fits (a .s .now) (a .at) _ (p .1) h), (ids-distinct (a .s .now) (a .at) (a .c .items) (p .3 .0) (p .3 .1) (a .table .now) (p .3 .2 .before), none-derived (a .s .now) (a .at) (a .c .items) (p .3 .0) (p .3 .1) (a .table .now) (p .3 .2 .before) (p .3 .2 .none)))
 
 put-head-requires-2 : tie.Need-put-head-requires-2
-put-head-requires-2 c κs = let h = counts-few (c .before .before .before .before .before .before .before .before .before .before .before .before .before .args .s .now) (c .before .before .before .before .before .before .before .before .before .before .before .before .before .args .at) (c .before .before .before .before .before .before .before .before .before .before .before .before .before .args .c) (c .before .before .before .before .before .before .before .before .before .before .before .before .before .pre .3 .0) (c .before .before .before .before .before .before .before .before .before .before .before .before .before .pre .3 .1) (c .before .before .before .before .before .before .before .before .before .before .before .before .before .args .table .now) (c .before .before .before .before .before .before .before .before .before .before .before .before .before .pre .3 .2) in let k = last-few (c .before .before .before .before .before .before .before .before .before .before .before .before .before .args .s .now) (c .before .before .before .before .before .before .before .before .before .before .before .before .before .args .at) (c .before .before .before .before .before .before .before .before .before .before .before .before .before .args .total) (c .before .before .before .before .before .before .before .before .before .before .before .before .before .args .primary .0) _ (c .before .before .before .before .before .before .before .before .before .before .before .before .before .pre .0) (c .before .before .before .before .before .before .before .before .before .before .before .before .before .args .c) (c .before .before .before .before .before .before .before .before .before .before .before .before .before .pre .3 .0) (c .before .before .before .before .before .before .before .before .before .before .before .before .before .pre .3 .1) _ (c .before .before .before .before .before .before .before .before .before .before .before .before .before .pre .3 .2) (c .before .before .before .before .before .before .before .before .before .if1 .left) _ refl _ (sym (c .before .before .before .before .before .before .read-references .ensures .0) ∙ c .before .before .t2 .given .1) in (omega (arith, c .before .before .before .before .before .before .read-references .ensures .1 .kept .same-length, c .before .before .before .before .before .before .before .before .before .before .before .before .before .pre .2), h .0, h .1, h .2, k, h .4)
+put-head-requires-2 c κs =
+    let a = c .before .before .before .before .before .before .before .before .before .before .before .before .before .args in
+    let p = c .before .before .before .before .before .before .before .before .before .before .before .before .before .pre in
+    let h = counts-few (a .s .now) (a .at) (a .c) (p .3 .0) (p .3 .1) (a .table .now) (p .3 .2) in let k = last-few (a .s .now) (a .at) (a .total) (a .primary .0) _ (p .0) (a .c) (p .3 .0) (p .3 .1) _ (p .3 .2) (c .before .before .before .before .before .before .before .before .before .if1 .left) _ refl _ (sym (c .before .before .before .before .before .before .read-references .ensures .0) ∙ c .before .before .t2 .given .1) in (omega (arith, c .before .before .before .before .before .before .read-references .ensures .1 .kept .same-length, p .2), h .0, h .1, h .2, k, h .4)
 
 found-idat-requires-2 : tie.Need-found-idat-requires-2
 found-idat-requires-2 c κs = (c .before .before .before .before .before .before .before .before .before .before .before .before .before .before .before .before .args .s .now, c .before .before .before .before .before .before .before .before .before .before .before .before .before .before .before .before .pre .0, c .before .before .before .before .before .before .before .before .before .before .before .before .before .before .before .before .pre .1)
 
 returns-2 : tie.Need-returns-2
-returns-2 c = ((λ f x l. last-gone (c .before .before .before .before .before .before .before .before .before .before .before .before .args .s .now) (c .before .before .before .before .before .before .before .before .before .before .before .before .args .at) (c .before .before .before .before .before .before .before .before .before .before .before .before .args .total) (c .before .before .before .before .before .before .before .before .before .before .before .before .args .primary .0) _ (c .before .before .before .before .before .before .before .before .before .before .before .before .pre .0) (c .before .before .before .before .before .before .before .before .before .before .before .before .args .c) f x _ l (c .before .before .before .before .before .before .before .before .if1 .left) _ refl _ (sym (c .before .before .before .before .before .read-references .ensures .0) ∙ c .before .t .given .1) _), c .before .before .before .before .before .read-references .ensures .1 .kept)
+returns-2 c =
+    let a = c .before .before .before .before .before .before .before .before .before .before .before .before .args in
+    ((λ f x l. last-gone (a .s .now) (a .at) (a .total) (a .primary .0) _ (c .before .before .before .before .before .before .before .before .before .before .before .before .pre .0) (a .c) f x _ l (c .before .before .before .before .before .before .before .before .if1 .left) _ refl _ (sym (c .before .before .before .before .before .read-references .ensures .0) ∙ c .before .t .given .1) _), c .before .before .before .before .before .read-references .ensures .1 .kept)
 
 returns-3 : tie.Need-returns-3
-returns-3 c = ((λ f x l. last-read (c .before .before .before .before .before .before .before .before .before .before .before .before .before .before .before .before .before .args .s .now) (c .before .before .before .before .before .before .before .before .before .before .before .before .before .before .before .before .before .args .at) (c .before .before .before .before .before .before .before .before .before .before .before .before .before .before .before .before .before .args .total) (c .before .before .before .before .before .before .before .before .before .before .before .before .before .before .before .before .before .args .primary .0) _ (c .before .before .before .before .before .before .before .before .before .before .before .before .before .before .before .before .before .pre .0) (c .before .before .before .before .before .before .before .before .before .before .before .before .before .before .before .before .before .args .c) f x _ l (c .before .before .before .before .before .before .before .before .before .before .before .before .before .if1 .left) _ refl _ (sym (c .before .before .before .before .before .before .before .before .before .before .read-references .ensures .0) ∙ c .before .before .before .before .before .before .t2 .given .1) _ _ (c .before .before .before .before .before .before .before .before .before .before .read-references .ensures .1) (c .before .before .before .put-head2 .ensures) _ (c .found-idat2 .ensures _ (c .before .before .before .before .before .before .before .before .before .before .before .before .before .before .before .before .before .pre .0))), kept-on _ _ _ (c .before .before .before .before .before .before .before .before .before .before .read-references .ensures .1 .kept) (head-kept _ _ _ _ _ _ _ _ _ _ (c .before .before .before .put-head2 .ensures)))
+returns-3 c =
+    let a = c .before .before .before .before .before .before .before .before .before .before .before .before .before .before .before .before .before .args in
+    ((λ f x l. last-read (a .s .now) (a .at) (a .total) (a .primary .0) _ (c .before .before .before .before .before .before .before .before .before .before .before .before .before .before .before .before .before .pre .0) (a .c) f x _ l (c .before .before .before .before .before .before .before .before .before .before .before .before .before .if1 .left) _ refl _ (sym (c .before .before .before .before .before .before .before .before .before .before .read-references .ensures .0) ∙ c .before .before .before .before .before .before .t2 .given .1) _ _ (c .before .before .before .before .before .before .before .before .before .before .read-references .ensures .1) (c .before .before .before .put-head2 .ensures) _ (c .found-idat2 .ensures _ (c .before .before .before .before .before .before .before .before .before .before .before .before .before .before .before .before .before .pre .0))), kept-on _ _ _ (c .before .before .before .before .before .before .before .before .before .before .read-references .ensures .1 .kept) (head-kept _ _ _ _ _ _ _ _ _ _ (c .before .before .before .put-head2 .ensures)))
 
 pub read-last-spec : {M : Type 1} → statement M
 read-last-spec =

@@ -9,22 +9,35 @@ use Rattle.references.proofs.put_counted.Statement.{statement}
 use Rattle.references.proofs.put_counted.Tie as tie
 
 returns : tie.Need-returns
-returns c = ((kept-same _, λ y. refl), λ before q fresh. put-count-cut (c .before .before .before .args .table .now) (c .before .before .before .args .n) (c .before .before .before .args .w) (c .before .before .before .args .place) (c .before .before .before .args .used) (c .before .before .before .args .s .now) (c .before .before .before .args .derives) before q (c .before .before .before .pre .1 .0) _ (c .before .before .before .pre .1 .1) (c .before .before .before .pre .1 .2) fresh (c .if1 .taken) _)
+returns c =
+    let a = c .before .before .before .args in
+    let p = c .before .before .before .pre in
+    ((kept-same _, λ y. refl), λ before q fresh. put-count-cut (a .table .now) (a .n) (a .w) (a .place) (a .used) (a .s .now) (a .derives) before q (p .1 .0) _ (p .1 .1) (p .1 .2) fresh (c .if1 .taken) _)
 
 put-derivation-requires : tie.Need-put-derivation-requires
-put-derivation-requires c κs = ((c .before .before .before .before .before .before .pre .0), (c .before .before .before .if1 .left, c .before .before .before .before .before .before .pre .1 .1, c .before .before .before .before .before .before .pre .1 .2, c .before .before .be16 .ensures, omega (arith, c .before .before .be16 .ensures, be-below (c .before .before .before .before .before .before .args .s .now) (c .before .before .before .before .before .before .args .w) 2 (c .before .before .before .before .before .shared-slice-known .given))))
+put-derivation-requires c κs =
+    let p = c .before .before .before .before .before .before .pre in
+    ((p .0), (c .before .before .before .if1 .left, p .1 .1, p .1 .2, c .before .before .be16 .ensures, omega (arith, c .before .before .be16 .ensures, be-below (c .before .before .before .before .before .before .args .s .now) (c .before .before .before .before .before .before .args .w) 2 (c .before .before .before .before .before .shared-slice-known .given))))
 
 returns-2 : tie.Need-returns-2
 returns-2 c = ((c .before .before .put-derivation .ensures .0, λ y. never-both _ (c .before .before .before .before .if2 .taken) y), λ before q fresh. as-dimg _ _ _ _ _ _ before _ _ _ (c .before .before .before .before .if2 .taken) (c .before .before .put-derivation .ensures .1 before q (dimg-fresh _ _ (c .before .before .before .before .if2 .taken) fresh)))
 
 put-targets-requires : tie.Need-put-targets-requires
-put-targets-requires c κs = (c .before .before .before .before .before .before .pre .0 .0, c .before .before .before .before .before .before .pre .0 .1, c .before .before .before .if1 .left, c .before .before .before .before .before .before .pre .0 .2, c .before .before .before .before .before .before .pre .0 .3, λ y. never-both _ y refl)
+put-targets-requires c κs =
+    let p = c .before .before .before .before .before .before .pre in
+    (p .0 .0, p .0 .1, c .before .before .before .if1 .left, p .0 .2, p .0 .3, λ y. never-both _ y refl)
 
 returns-3 : tie.Need-returns-3
-returns-3 c = ((c .before .before .before .before .before .put-targets .ensures .1 .kept, λ y. c .before .before .before .before .before .put-targets .ensures .1 .other refl), λ before q fresh. pass-refused (c .before .before .before .before .before .before .before .before .before .before .before .before .args .table .now) (c .before .before .before .before .before .before .before .before .before .before .before .before .args .n) (c .before .before .before .before .before .before .before .before .before .before .before .before .args .w) (c .before .before .before .before .before .before .before .before .before .before .before .before .args .place) (c .before .before .before .before .before .before .before .before .before .before .before .before .args .used) (c .before .before .before .before .before .before .before .before .before .before .before .before .args .s .now) (c .before .before .before .before .before .before .before .before .before .before .before .before .args .derives) before q (c .before .before .before .before .before .before .before .before .before .before .before .before .pre .1 .0) _ (c .before .before .before .before .before .before .before .before .before .before .before .before .pre .1 .1) (c .before .before .before .before .before .before .before .before .before .before .before .before .pre .1 .2) fresh (c .before .before .before .before .before .before .before .before .before .if1 .left) _ (c .before .before .before .before .before .before .before .before .be16 .ensures) (c .before .before .before .before .before .before .before .if2 .left) _ (sym (c .before .before .before .before .before .put-targets .ensures .0) ∙ c .before .t .given .1) _)
+returns-3 c =
+    let a = c .before .before .before .before .before .before .before .before .before .before .before .before .args in
+    let p = c .before .before .before .before .before .before .before .before .before .before .before .before .pre in
+    ((c .before .before .before .before .before .put-targets .ensures .1 .kept, λ y. c .before .before .before .before .before .put-targets .ensures .1 .other refl), λ before q fresh. pass-refused (a .table .now) (a .n) (a .w) (a .place) (a .used) (a .s .now) (a .derives) before q (p .1 .0) _ (p .1 .1) (p .1 .2) fresh (c .before .before .before .before .before .before .before .before .before .if1 .left) _ (c .before .before .before .before .before .before .before .before .be16 .ensures) (c .before .before .before .before .before .before .before .if2 .left) _ (sym (c .before .before .before .before .before .put-targets .ensures .0) ∙ c .before .t .given .1) _)
 
 returns-4 : tie.Need-returns-4
-returns-4 c = ((c .before .before .before .before .put-targets .ensures .1 .kept, λ y. c .before .before .before .before .put-targets .ensures .1 .other refl), λ before q fresh. pass-done (c .before .before .before .before .before .before .before .before .before .before .before .args .table .now) (c .before .before .before .before .before .before .before .before .before .before .before .args .n) (c .before .before .before .before .before .before .before .before .before .before .before .args .w) (c .before .before .before .before .before .before .before .before .before .before .before .args .place) (c .before .before .before .before .before .before .before .before .before .before .before .args .used) (c .before .before .before .before .before .before .before .before .before .before .before .args .s .now) (c .before .before .before .before .before .before .before .before .before .before .before .args .derives) before q (c .before .before .before .before .before .before .before .before .before .before .before .pre .1 .0) _ (c .before .before .before .before .before .before .before .before .before .before .before .pre .1 .1) (c .before .before .before .before .before .before .before .before .before .before .before .pre .1 .2) fresh (c .before .before .before .before .before .before .before .before .if1 .left) _ (c .before .before .before .before .before .before .before .be16 .ensures) (c .before .before .before .before .before .before .if2 .left) (sym (c .before .before .before .before .put-targets .ensures .0) ∙ c .enum-told .given .1) _)
+returns-4 c =
+    let a = c .before .before .before .before .before .before .before .before .before .before .before .args in
+    let p = c .before .before .before .before .before .before .before .before .before .before .before .pre in
+    ((c .before .before .before .before .put-targets .ensures .1 .kept, λ y. c .before .before .before .before .put-targets .ensures .1 .other refl), λ before q fresh. pass-done (a .table .now) (a .n) (a .w) (a .place) (a .used) (a .s .now) (a .derives) before q (p .1 .0) _ (p .1 .1) (p .1 .2) fresh (c .before .before .before .before .before .before .before .before .if1 .left) _ (c .before .before .before .before .before .before .before .be16 .ensures) (c .before .before .before .before .before .before .if2 .left) (sym (c .before .before .before .before .put-targets .ensures .0) ∙ c .enum-told .given .1) _)
 
 pub put-counted-spec : {M : Type 1} → statement M
 put-counted-spec =

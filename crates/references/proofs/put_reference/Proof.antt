@@ -10,22 +10,32 @@ use Rattle.references.proofs.put_reference.Statement.{statement}
 use Rattle.references.proofs.put_reference.Tie as tie
 
 returns : tie.Need-returns
-returns c = ((kept-same _, λ y. refl), λ before q marked. put-source-cut (c .before .before .before .args .table .now) (c .before .before .before .args .n) (c .before .before .before .args .w) (c .before .before .before .args .place) (c .before .before .before .args .used) (c .before .before .before .args .s .now) (c .before .before .before .args .derives) before q (c .if1 .taken) _)
+returns c =
+    let a = c .before .before .before .args in
+    ((kept-same _, λ y. refl), λ before q marked. put-source-cut (a .table .now) (a .n) (a .w) (a .place) (a .used) (a .s .now) (a .derives) before q (c .if1 .taken) _)
 
 is-second-requires : tie.Need-is-second-requires
 is-second-requires c κs = (c .before .before .before .before .before .before .before .before .before .before .pre .0, omega (arith, (found-row (c .before .before .before .before .before .before .before .before .before .before .args .table .now) (c .before .before .before .before .before .before .before .before .before .before .args .n) _ _ _ (c .before .before .before .before .row-of .ensures) (c .before .before .f .given .1)) .0, c .before .before .before .before .before .before .before .before .before .before .pre .1))
 
 returns-2 : tie.Need-returns-2
-returns-2 c = ((kept-same _, λ y. refl), λ before q marked. put-source-twice (c .before .before .before .before .before .before .before .before .before .before .before .before .args .table .now) (c .before .before .before .before .before .before .before .before .before .before .before .before .args .n) (c .before .before .before .before .before .before .before .before .before .before .before .before .args .w) (c .before .before .before .before .before .before .before .before .before .before .before .before .args .place) (c .before .before .before .before .before .before .before .before .before .before .before .before .args .used) (c .before .before .before .before .before .before .before .before .before .before .before .before .args .s .now) (c .before .before .before .before .before .before .before .before .before .before .before .before .args .derives) before q (c .before .before .before .before .before .before .before .before .before .if1 .left) _ ((found-row (c .before .before .before .before .before .before .before .before .before .before .before .before .args .table .now) (c .before .before .before .before .before .before .before .before .before .before .before .before .args .n) _ _ _ (c .before .before .before .before .before .before .row-of .ensures) (c .before .before .before .before .f .given .1)) .0) ((found-row (c .before .before .before .before .before .before .before .before .before .before .before .before .args .table .now) (c .before .before .before .before .before .before .before .before .before .before .before .before .args .n) _ _ _ (c .before .before .before .before .before .before .row-of .ensures) (c .before .before .before .before .f .given .1)) .1 ∙ c .before .before .before .before .before .before .before .be-id .ensures) marked (sym (c .before .is-second .ensures) ∙ c .if2 .taken) _)
+returns-2 c =
+    let a = c .before .before .before .before .before .before .before .before .before .before .before .before .args in
+    ((kept-same _, λ y. refl), λ before q marked. put-source-twice (a .table .now) (a .n) (a .w) (a .place) (a .used) (a .s .now) (a .derives) before q (c .before .before .before .before .before .before .before .before .before .if1 .left) _ ((found-row (a .table .now) (a .n) _ _ _ (c .before .before .before .before .before .before .row-of .ensures) (c .before .before .before .before .f .given .1)) .0) ((found-row (a .table .now) (a .n) _ _ _ (c .before .before .before .before .before .before .row-of .ensures) (c .before .before .before .before .f .given .1)) .1 ∙ c .before .before .before .before .before .before .before .be-id .ensures) marked (sym (c .before .is-second .ensures) ∙ c .if2 .taken) _)
 
 put-counted-requires : tie.Need-put-counted-requires
-put-counted-requires c κs = (c .before .before .before .before .before .before .before .before .before .before .before .before .before .pre, (c .before .before .before .before .before .before .before .before .before .before .if1 .left, (found-row (c .before .before .before .before .before .before .before .before .before .before .before .before .before .args .table .now) (c .before .before .before .before .before .before .before .before .before .before .before .before .before .args .n) _ _ _ (c .before .before .before .before .before .before .before .row-of .ensures) (c .before .before .before .before .before .f .given .1)) .0, (found-row (c .before .before .before .before .before .before .before .before .before .before .before .before .before .args .table .now) (c .before .before .before .before .before .before .before .before .before .before .before .before .before .args .n) _ _ _ (c .before .before .before .before .before .before .before .row-of .ensures) (c .before .before .before .before .before .f .given .1)) .1 ∙ c .before .before .before .before .before .before .before .before .be-id .ensures))
+put-counted-requires c κs =
+    let a = c .before .before .before .before .before .before .before .before .before .before .before .before .before .args in
+    (c .before .before .before .before .before .before .before .before .before .before .before .before .before .pre, (c .before .before .before .before .before .before .before .before .before .before .if1 .left, (found-row (a .table .now) (a .n) _ _ _ (c .before .before .before .before .before .before .before .row-of .ensures) (c .before .before .before .before .before .f .given .1)) .0, (found-row (a .table .now) (a .n) _ _ _ (c .before .before .before .before .before .before .before .row-of .ensures) (c .before .before .before .before .before .f .given .1)) .1 ∙ c .before .before .before .before .before .before .before .before .be-id .ensures))
 
 returns-3 : tie.Need-returns-3
-returns-3 c = ((kept-same _, λ y. refl), λ before q marked. put-source-unlisted (c .before .before .before .before .before .before .before .before .args .table .now) (c .before .before .before .before .before .before .before .before .args .n) (c .before .before .before .before .before .before .before .before .args .w) (c .before .before .before .before .before .before .before .before .args .place) (c .before .before .before .before .before .before .before .before .args .used) (c .before .before .before .before .before .before .before .before .args .s .now) (c .before .before .before .before .before .before .before .before .args .derives) before q (c .before .before .before .before .before .if1 .left) _ (c .before .before .before .be-id .ensures) (subst (FoundIs _ _ _) (c .enum-told .given .1) (c .before .before .row-of .ensures)) _)
+returns-3 c =
+    let a = c .before .before .before .before .before .before .before .before .args in
+    ((kept-same _, λ y. refl), λ before q marked. put-source-unlisted (a .table .now) (a .n) (a .w) (a .place) (a .used) (a .s .now) (a .derives) before q (c .before .before .before .before .before .if1 .left) _ (c .before .before .before .be-id .ensures) (subst (FoundIs _ _ _) (c .enum-told .given .1) (c .before .before .row-of .ensures)) _)
 
 returns-4 : tie.Need-returns-4
-returns-4 c = (c .before .before .put-counted .ensures .0, λ before q marked. c .before .before .put-counted .ensures .1 before q (source-fresh (c .before .before .before .before .before .before .before .before .before .before .before .before .before .before .before .before .args .table .now) (c .before .before .before .before .before .before .before .before .before .before .before .before .before .before .before .before .args .n) (c .before .before .before .before .before .before .before .before .before .before .before .before .before .before .before .before .args .w) (c .before .before .before .before .before .before .before .before .before .before .before .before .before .before .before .before .args .place) (c .before .before .before .before .before .before .before .before .before .before .before .before .before .before .before .before .args .used) (c .before .before .before .before .before .before .before .before .before .before .before .before .before .before .before .before .args .s .now) (c .before .before .before .before .before .before .before .before .before .before .before .before .before .before .before .before .args .derives) before q (c .before .before .before .before .before .before .before .before .before .before .before .before .before .if1 .left) _ ((found-row (c .before .before .before .before .before .before .before .before .before .before .before .before .before .before .before .before .args .table .now) (c .before .before .before .before .before .before .before .before .before .before .before .before .before .before .before .before .args .n) _ _ _ (c .before .before .before .before .before .before .before .before .before .before .row-of .ensures) (c .before .before .before .before .before .before .before .before .f .given .1)) .0) ((found-row (c .before .before .before .before .before .before .before .before .before .before .before .before .before .before .before .before .args .table .now) (c .before .before .before .before .before .before .before .before .before .before .before .before .before .before .before .before .args .n) _ _ _ (c .before .before .before .before .before .before .before .before .before .before .row-of .ensures) (c .before .before .before .before .before .before .before .before .f .given .1)) .1 ∙ c .before .before .before .before .before .before .before .before .before .before .before .be-id .ensures) marked (sym (c .before .before .before .before .before .is-second .ensures) ∙ c .before .before .before .before .if2 .left)))
+returns-4 c =
+    let a = c .before .before .before .before .before .before .before .before .before .before .before .before .before .before .before .before .args in
+    (c .before .before .put-counted .ensures .0, λ before q marked. c .before .before .put-counted .ensures .1 before q (source-fresh (a .table .now) (a .n) (a .w) (a .place) (a .used) (a .s .now) (a .derives) before q (c .before .before .before .before .before .before .before .before .before .before .before .before .before .if1 .left) _ ((found-row (a .table .now) (a .n) _ _ _ (c .before .before .before .before .before .before .before .before .before .before .row-of .ensures) (c .before .before .before .before .before .before .before .before .f .given .1)) .0) ((found-row (a .table .now) (a .n) _ _ _ (c .before .before .before .before .before .before .before .before .before .before .row-of .ensures) (c .before .before .before .before .before .before .before .before .f .given .1)) .1 ∙ c .before .before .before .before .before .before .before .before .before .before .before .be-id .ensures) marked (sym (c .before .before .before .before .before .is-second .ensures) ∙ c .before .before .before .before .if2 .left)))
 
 pub put-reference-spec : {M : Type 1} → statement M
 put-reference-spec =

@@ -30,19 +30,26 @@ part-put-reference-end : tie.Need-part-put-reference-end Inv-loop μ-loop
 part-put-reference-end c = let w = further _ _ _ _ _ _ _ _ _ (c .before .before .before .before .loop .inv) _ _ _ (sym (c .before .before .before .child-at .ensures) ∙ c .before .c .given .1) in omega arith
 
 put-reference-requires : tie.Need-put-reference-requires Inv-loop μ-loop
-put-reference-requires c κs = (omega (arith, c .before .before .before .before .before .before .before .loop .inv .kept .same-length, c .before .before .before .before .before .before .before .before .before .before .pre .0 .0), c .before .before .before .before .before .before .before .before .before .before .pre .0 .1, c .before .before .before .before .before .before .before .before .before .before .pre .0 .4, c .before .before .before .before .before .before .before .loop .inv .few)
+put-reference-requires c κs =
+    let p = c .before .before .before .before .before .before .before .before .before .before .pre in
+    (omega (arith, c .before .before .before .before .before .before .before .loop .inv .kept .same-length, p .0 .0), p .0 .1, p .0 .4, c .before .before .before .before .before .before .before .loop .inv .few)
 
 same-length : tie.Need-same-length Inv-loop μ-loop
 same-length c = c .before .before .before .before .before .put-reference .ensures .0 .0 .same-length ∙ c .before .before .before .before .before .before .before .before .before .before .before .before .before .loop .inv .kept .same-length
 
 returns : tie.Need-returns Inv-loop μ-loop
-returns c = refused _ _ _ _ _ _ _ _ _ (c .before .before .before .before .before .before .before .before .before .before .before .before .before .loop .inv) _ _ _ (sym (c .before .before .before .before .before .before .before .before .before .before .before .before .child-at .ensures) ∙ c .before .before .before .before .before .before .before .before .before .before .c .given .1) _ _ (c .before .before .before .before .before .before .before .is-dimg .ensures) (c .before .before .before .before .before .put-reference .ensures .0 .0) (c .before .before .before .before .before .put-reference .ensures .0 .1) _ (c .before .before .before .before .before .put-reference .ensures .1 (c .before .before .before .before .before .before .before .before .before .before .before .before .before .loop .inv .before) (c .before .before .before .before .before .before .before .before .before .before .before .before .before .loop .inv .count) (c .before .before .before .before .before .before .before .before .before .before .before .before .before .loop .inv .marked)) _ (c .before .r .given .1)
+returns c =
+    let l = c .before .before .before .before .before .before .before .before .before .before .before .before .before .loop in
+    refused _ _ _ _ _ _ _ _ _ (l .inv) _ _ _ (sym (c .before .before .before .before .before .before .before .before .before .before .before .before .child-at .ensures) ∙ c .before .before .before .before .before .before .before .before .before .before .c .given .1) _ _ (c .before .before .before .before .before .before .before .is-dimg .ensures) (c .before .before .before .before .before .put-reference .ensures .0 .0) (c .before .before .before .before .before .put-reference .ensures .0 .1) _ (c .before .before .before .before .before .put-reference .ensures .1 (l .inv .before) (l .inv .count) (l .inv .marked)) _ (c .before .r .given .1)
 
 loop-less : tie.Need-loop-less Inv-loop μ-loop
 loop-less c = let w = further _ _ _ _ _ _ _ _ _ (c .before .before .before .before .before .before .before .before .before .before .before .before .before .loop .inv) _ _ _ (sym (c .before .before .before .before .before .before .before .before .before .before .before .before .child-at .ensures) ∙ c .before .before .before .before .before .before .before .before .before .before .c .given .1) in omega arith
 
 loop-again : tie.Need-loop-again Inv-loop μ-loop
-loop-again c = grown _ _ _ _ _ _ _ _ _ (c .before .before .before .before .before .before .before .before .before .before .before .before .before .loop .inv) _ _ _ (sym (c .before .before .before .before .before .before .before .before .before .before .before .before .child-at .ensures) ∙ c .before .before .before .before .before .before .before .before .before .before .c .given .1) _ _ (c .before .before .before .before .before .before .before .is-dimg .ensures) (c .before .before .before .before .before .put-reference .ensures .0 .0) (c .before .before .before .before .before .put-reference .ensures .0 .1) _ (c .before .before .before .before .before .put-reference .ensures .1 (c .before .before .before .before .before .before .before .before .before .before .before .before .before .loop .inv .before) (c .before .before .before .before .before .before .before .before .before .before .before .before .before .loop .inv .count) (c .before .before .before .before .before .before .before .before .before .before .before .before .before .loop .inv .marked)) (c .before .before .before .before .before .before .before .before .before .before .before .before .before .before .before .before .pre .0 .1) (c .before .before .before .before .before .before .before .before .before .before .before .before .before .before .before .before .pre .0 .0) (c .before .before .before .before .before .before .before .before .before .before .before .before .before .before .before .before .pre .1 .0) _ (c .before .r2 .given .1)
+loop-again c =
+    let l = c .before .before .before .before .before .before .before .before .before .before .before .before .before .loop in
+    let p = c .before .before .before .before .before .before .before .before .before .before .before .before .before .before .before .before .pre in
+    grown _ _ _ _ _ _ _ _ _ (l .inv) _ _ _ (sym (c .before .before .before .before .before .before .before .before .before .before .before .before .child-at .ensures) ∙ c .before .before .before .before .before .before .before .before .before .before .c .given .1) _ _ (c .before .before .before .before .before .before .before .is-dimg .ensures) (c .before .before .before .before .before .put-reference .ensures .0 .0) (c .before .before .before .before .before .put-reference .ensures .0 .1) _ (c .before .before .before .before .before .put-reference .ensures .1 (l .inv .before) (l .inv .count) (l .inv .marked)) (p .0 .1) (p .0 .0) (p .1 .0) _ (c .before .r2 .given .1)
 
 same-length-2 : tie.Need-same-length-2 Inv-loop μ-loop
 same-length-2 c = c .before .before .before .loop .inv .kept .same-length

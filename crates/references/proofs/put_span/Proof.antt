@@ -7,7 +7,9 @@ use Rattle.references.proofs.put_span.Statement.{statement}
 use Rattle.references.proofs.put_span.Tie as tie
 
 returns : tie.Need-returns
-returns c = sets-two (c .before .before .args .table .now) _ _ (c .before .before .args .used) (c .before .before .args .k) (c .item .ensures)
+returns c =
+    let a = c .before .before .args in
+    sets-two (a .table .now) _ _ (a .used) (a .k) (c .item .ensures)
 
 pub put-span-spec : {M : Type 1} → statement M
 put-span-spec =

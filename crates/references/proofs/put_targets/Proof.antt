@@ -22,25 +22,37 @@ sub-if1 : tie.Need-sub-if1 Inv-loop μ-loop
 sub-if1 c = omega (arith, c .before .loop .inv .here)
 
 same-length : tie.Need-same-length Inv-loop μ-loop
-same-length c = so-length _ _ _ _ _ _ _ _ _ (c .before .before .before .before .before .pre .1) (c .before .before .before .before .before .pre .4) (c .before .before .before .before .before .pre .5) _ _ _ (c .before .before .loop .inv)
+same-length c =
+    let p = c .before .before .before .before .before .pre in
+    so-length _ _ _ _ _ _ _ _ _ (p .1) (p .4) (p .5) _ _ _ (c .before .before .loop .inv)
 
 returns : tie.Need-returns Inv-loop μ-loop
-returns c = cut _ _ _ _ _ _ _ _ _ (c .before .before .before .before .before .pre .1) (c .before .before .before .before .before .pre .4) (c .before .before .before .before .before .pre .5) _ _ _ (c .before .before .loop .inv) (c .before .loop-test .taken) (c .if1 .taken)
+returns c =
+    let p = c .before .before .before .before .before .pre in
+    cut _ _ _ _ _ _ _ _ _ (p .1) (p .4) (p .5) _ _ _ (c .before .before .loop .inv) (c .before .loop-test .taken) (c .if1 .taken)
 
 be-id-requires : tie.Need-be-id-requires Inv-loop μ-loop
 be-id-requires c κs = (omega (arith, c .before .before .loop .inv .here), c .before .before .before .before .before .pre .3)
 
 row-of-requires : tie.Need-row-of-requires Inv-loop μ-loop
-row-of-requires c κs = (c .before .before .before .before .before .before .before .pre .1, omega (arith, so-length _ _ _ _ _ _ _ _ _ (c .before .before .before .before .before .before .before .pre .1) (c .before .before .before .before .before .before .before .pre .4) (c .before .before .before .before .before .before .before .pre .5) _ _ _ (c .before .before .before .before .loop .inv), c .before .before .before .before .before .before .before .pre .0))
+row-of-requires c κs =
+    let p = c .before .before .before .before .before .before .before .pre in
+    (p .1, omega (arith, so-length _ _ _ _ _ _ _ _ _ (p .1) (p .4) (p .5) _ _ _ (c .before .before .before .before .loop .inv), p .0))
 
 same-length-2 : tie.Need-same-length-2 Inv-loop μ-loop
-same-length-2 c = so-length _ _ _ _ _ _ _ _ _ (c .before .before .before .before .before .before .before .before .before .before .pre .1) (c .before .before .before .before .before .before .before .before .before .before .pre .4) (c .before .before .before .before .before .before .before .before .before .before .pre .5) _ _ _ (c .before .before .before .before .before .before .before .loop .inv)
+same-length-2 c =
+    let p = c .before .before .before .before .before .before .before .before .before .before .pre in
+    so-length _ _ _ _ _ _ _ _ _ (p .1) (p .4) (p .5) _ _ _ (c .before .before .before .before .before .before .before .loop .inv)
 
 returns-2 : tie.Need-returns-2 Inv-loop μ-loop
-returns-2 c = unlisted _ _ _ _ _ _ _ _ _ (c .before .before .before .before .before .before .before .before .before .before .pre .1) (c .before .before .before .before .before .before .before .before .before .before .pre .4) (c .before .before .before .before .before .before .before .before .before .before .pre .5) _ _ _ (c .before .before .before .before .before .before .before .loop .inv) (c .before .before .before .before .before .before .loop-test .taken) (c .before .before .before .before .before .if1 .left) _ (c .before .before .before .before .be-id .ensures) (subst (FoundIs _ _ _) (c .enum-told .given .1) (c .before .before .row-of .ensures))
+returns-2 c =
+    let p = c .before .before .before .before .before .before .before .before .before .before .pre in
+    unlisted _ _ _ _ _ _ _ _ _ (p .1) (p .4) (p .5) _ _ _ (c .before .before .before .before .before .before .before .loop .inv) (c .before .before .before .before .before .before .loop-test .taken) (c .before .before .before .before .before .if1 .left) _ (c .before .before .before .before .be-id .ensures) (subst (FoundIs _ _ _) (c .enum-told .given .1) (c .before .before .row-of .ensures))
 
 put-target-requires : tie.Need-put-target-requires Inv-loop μ-loop
-put-target-requires c κs = (omega (arith, so-length _ _ _ _ _ _ _ _ _ (c .before .before .before .before .before .before .before .before .before .before .before .before .pre .1) (c .before .before .before .before .before .before .before .before .before .before .before .before .pre .4) (c .before .before .before .before .before .before .before .before .before .before .before .before .pre .5) _ _ _ (c .before .before .before .before .before .before .before .before .before .loop .inv), c .before .before .before .before .before .before .before .before .before .before .before .before .pre .0), λ e. omega (arith, c .before .before .before .before .before .before .before .before .before .before .before .before .pre .5 e, c .before .before .before .before .before .before .before .before .loop-test .taken))
+put-target-requires c κs =
+    let p = c .before .before .before .before .before .before .before .before .before .before .before .before .pre in
+    (omega (arith, so-length _ _ _ _ _ _ _ _ _ (p .1) (p .4) (p .5) _ _ _ (c .before .before .before .before .before .before .before .before .before .loop .inv), p .0), λ e. omega (arith, p .5 e, c .before .before .before .before .before .before .before .before .loop-test .taken))
 
 add-hope : tie.Need-add-hope Inv-loop μ-loop
 add-hope c = let g : FoundIs (c .before .before .before .before .before .before .before .before .before .before .before .before .before .loop .table) (c .before .before .before .before .before .before .before .before .before .before .before .before .before .before .before .before .args .n) (c .before .before .before .before .before .before .before .before .before .before .be-id .result) (At (c .before .before .before .before .before .before .f .given .0 .0)) = (subst (FoundIs _ _ _) (c .before .before .before .before .before .before .f .given .1) (c .before .before .before .before .before .before .before .before .row-of .ensures)) in omega (arith, g .0, c .before .before .before .before .before .before .before .before .before .before .before .before .before .before .before .before .pre .1)
@@ -49,19 +61,29 @@ add-at : tie.Need-add-at Inv-loop μ-loop
 add-at c = omega (arith, c .before .before .before .before .before .before .before .before .before .before .before .before .before .loop .inv .here)
 
 loop-again : tie.Need-loop-again Inv-loop μ-loop
-loop-again c = listed _ _ _ _ _ _ _ _ _ (c .before .before .before .before .before .before .before .before .before .before .before .before .before .before .before .before .pre .1) (c .before .before .before .before .before .before .before .before .before .before .before .before .before .before .before .before .pre .4) (c .before .before .before .before .before .before .before .before .before .before .before .before .before .before .before .before .pre .5) _ _ _ (c .before .before .before .before .before .before .before .before .before .before .before .before .before .loop .inv) (c .before .before .before .before .before .before .before .before .before .before .before .before .loop-test .taken) (c .before .before .before .before .before .before .before .before .before .before .before .if1 .left) _ (c .before .before .before .before .before .before .before .before .before .before .be-id .ensures) _ (subst (FoundIs _ _ _) (c .before .before .before .before .before .before .f .given .1) (c .before .before .before .before .before .before .before .before .row-of .ensures)) _ (c .before .before .before .put-target .ensures)
+loop-again c =
+    let p = c .before .before .before .before .before .before .before .before .before .before .before .before .before .before .before .before .pre in
+    listed _ _ _ _ _ _ _ _ _ (p .1) (p .4) (p .5) _ _ _ (c .before .before .before .before .before .before .before .before .before .before .before .before .before .loop .inv) (c .before .before .before .before .before .before .before .before .before .before .before .before .loop-test .taken) (c .before .before .before .before .before .before .before .before .before .before .before .if1 .left) _ (c .before .before .before .before .before .before .before .before .before .before .be-id .ensures) _ (subst (FoundIs _ _ _) (c .before .before .before .before .before .before .f .given .1) (c .before .before .before .before .before .before .before .before .row-of .ensures)) _ (c .before .before .before .put-target .ensures)
 
 same-length-3 : tie.Need-same-length-3 Inv-loop μ-loop
-same-length-3 c = so-length _ _ _ _ _ _ _ _ _ (c .before .before .before .before .before .pre .1) (c .before .before .before .before .before .pre .4) (c .before .before .before .before .before .pre .5) _ _ _ (c .before .before .loop .inv)
+same-length-3 c =
+    let p = c .before .before .before .before .before .pre in
+    so-length _ _ _ _ _ _ _ _ _ (p .1) (p .4) (p .5) _ _ _ (c .before .before .loop .inv)
 
 returns-3 : tie.Need-returns-3 Inv-loop μ-loop
-returns-3 c = left-over _ _ _ _ _ _ _ _ _ (c .before .before .before .before .before .pre .1) (c .before .before .before .before .before .pre .4) (c .before .before .before .before .before .pre .5) _ _ _ (c .before .before .loop .inv) (c .before .loop-test .left) (c .if2 .taken)
+returns-3 c =
+    let p = c .before .before .before .before .before .pre in
+    left-over _ _ _ _ _ _ _ _ _ (p .1) (p .4) (p .5) _ _ _ (c .before .before .loop .inv) (c .before .loop-test .left) (c .if2 .taken)
 
 same-length-4 : tie.Need-same-length-4 Inv-loop μ-loop
-same-length-4 c = so-length _ _ _ _ _ _ _ _ _ (c .before .before .before .before .before .pre .1) (c .before .before .before .before .before .pre .4) (c .before .before .before .before .before .pre .5) _ _ _ (c .before .before .loop .inv)
+same-length-4 c =
+    let p = c .before .before .before .before .before .pre in
+    so-length _ _ _ _ _ _ _ _ _ (p .1) (p .4) (p .5) _ _ _ (c .before .before .loop .inv)
 
 returns-4 : tie.Need-returns-4 Inv-loop μ-loop
-returns-4 c = done _ _ _ _ _ _ _ _ _ (c .before .before .before .before .before .pre .1) (c .before .before .before .before .before .pre .4) (c .before .before .before .before .before .pre .5) _ _ _ (c .before .before .loop .inv) (c .before .loop-test .left) (c .if2 .left)
+returns-4 c =
+    let p = c .before .before .before .before .before .pre in
+    done _ _ _ _ _ _ _ _ _ (p .1) (p .4) (p .5) _ _ _ (c .before .before .loop .inv) (c .before .loop-test .left) (c .if2 .left)
 
 pub put-targets-spec : {M : Type 1} → statement M
 put-targets-spec =

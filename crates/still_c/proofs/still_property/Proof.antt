@@ -5,7 +5,9 @@ use Rattle.still_c.proofs.still_property.Statement.{statement}
 use Rattle.still_c.proofs.still_property.Tie as tie
 
 returns : tie.Need-returns
-returns c = (c .property-numbers .ensures (c .before .before .before .before .before .before .before .before .args .total) (c .before .before .before .before .before .before .before .before .args .head .now) (c .before .before .before .before .before .before .before .before .args .table .now) (c .before .before .before .before .before .before .before .before .args .item) (c .before .before .before .before .before .before .before .before .args .k) (omega (arith, c .before .before .before .before .before .before .before .before .fits .total)) (c .before .before .before .before .property-asked .ensures .0) (c .before .before .before .before .property-asked .ensures .1), c .before .before .before .before .property-asked .ensures .1)
+returns c =
+    let a = c .before .before .before .before .before .before .before .before .args in
+    (c .property-numbers .ensures (a .total) (a .head .now) (a .table .now) (a .item) (a .k) (omega (arith, c .before .before .before .before .before .before .before .before .fits .total)) (c .before .before .before .before .property-asked .ensures .0) (c .before .before .before .before .property-asked .ensures .1), c .before .before .before .before .property-asked .ensures .1)
 
 pub still-property-spec : {M : Type 1} → statement M
 still-property-spec = tie.close (tie.spec (search needs) (search needs) (search needs) returns)
