@@ -30,6 +30,10 @@ SAID = {
     "refused-ring": "256 overlays of 8 inputs, all on cycles",
     "refused-body-last": "the fullest, last body wrong",
     "refused-size-last": "the fullest, last canvas wrong",
+    "ids-chance-rising": "256 items, IDs far apart by chance, rising",
+    "ids-chance-shuffled": "the same in no order",
+    "ids-remainder-rising": "256 items, IDs of one remainder of 256, rising",
+    "ids-remainder-shuffled": "the same in no order",
 }
 
 
