@@ -9,7 +9,7 @@
  * Nothing needs to be checked before a call: any bytes, numbers and lengths have an answer. What C cannot show is the caller's: each pointer
  * leads to as many elements as its length says, aligned for its type, writable except for the head, and no two of them overlap. Where a length
  * is 0 the pointer is not followed and may be null; out may not.
- * Nothing is kept between calls, nothing is allocated, and every call ends; still_sources takes some 25 KB of stack, the others 14 (measured,
+ * Nothing is kept between calls, nothing is allocated, and every call ends; still_sources takes some 19 KB of stack, the others 16 (measured,
  * not proved). Threads may call at once if each lends its own table, list and out.
  *
  * What every call leaves:

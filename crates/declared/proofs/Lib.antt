@@ -3,3 +3,4 @@ pub mod EssentialLaws
 pub mod IspeLaws
 pub mod SizeLaws
 pub mod ToldLaws
+pub mod AlikeLaws

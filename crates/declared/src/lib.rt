@@ -1,6 +1,7 @@
 // Refusals 15 and 16, and what an item's properties say of its size: the properties of an item, one after the other.
 ghost use mathlib.Core.Path.{_≡_};
 ghost use mathlib.Core.List.{List, []};
+ghost use mathlib.Core.Bool.{true};
 ghost use Prim.Native.Nat.{ℕ, _≤_, _<_};
 ghost use lib.ListN.{length, getD};
 ghost use Rattle.fields.specs.Choice.{pick};
@@ -121,6 +122,24 @@ pub fn properties_fault(table: &[u32], row: ItemRow) -> u32
     ensures { λ r. ⌜ ((head : List ℕ) (pl : Places) (f : File) → TableOf (now (table .entry)) head pl f → row .0 < length (f .items) → r ≡ pick (essentialKnown f (associationsOf f (idOf f (row .0)))) 16 15) ⌝ }
 {
     if essentials_known(table, row) { 16 } else { 15 }
+}
+
+// Whether two items have the same associations in the same order.
+pub fn is_alike(table: &[u32], row: ItemRow, other: ItemRow) -> bool
+    ensures { λ r. ⌜ ((head : List ℕ) (pl : Places) (f : File) → TableOf (now (table .entry)) head pl f → row .0 < length (f .items) → other .0 < length (f .items) → r ≡ true → associationsOf f (idOf f (row .0)) ≡ associationsOf f (idOf f (other .0))) ⌝ }
+{
+    let n = property_count(table, row);
+    if n != property_count(table, other) {
+        return false;
+    }
+    let mut j: usize = 0;
+    while j < n {
+        if views::association_of(table, row, j) != views::association_of(table, other, j) {
+            return false;
+        }
+        j += 1;
+    }
+    true
 }
 
 // The size that the content of an `ispe` declares.

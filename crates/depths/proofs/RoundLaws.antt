@@ -1,41 +1,20 @@
--- The rounds give the depths, the sweeps give at least the rounds and no more than the depths, and a sweep that changes nothing is the last that is needed. Assumes nothing.
-use Prim.Native.Nat.{ℕ, zero, suc, _+_, _-_, _*_, _≤_, _<_, max}
-use native.Mathlib.Decide.{decLt, ℕ-discrete}
-use native.Mathlib.Nat.{eq-or-lt-of-le}
+-- The rounds give the depths, the sweeps give at least the rounds and no more than the depths, and a sweep that is not to be done again is the last that is needed. Assumes nothing.
+use Prim.Native.Nat.{ℕ, zero, suc, _+_, _*_, _≤_, _<_, max}
+use native.Mathlib.Decide.{decLt}
 use native.Mathlib.Numerals.{add-one}
 use native.Mathlib.Omega.{arith}
 use mathlib.Core.Path.{_≡_, refl, sym, ap, subst, _∙_}
 use mathlib.Core.List.{List, [], _∷_}
-use mathlib.Core.Bool.{Bool, true, false, _||_}
-use mathlib.Core.Logic.{_⊎_, inl, inr, ⊎-elim}
-use lib.ListN.{length, getD, set, replicate}
-use lib.Seq.{getD-set-same, getD-set-other}
+use mathlib.Core.Bool.{Bool, false}
+use lib.ListN.{length, getD, replicate}
 use borrow.Author.Tests.{lt-ltb, le-ltb, ltb-true, ltb-false}
-use Rattle.fields.specs.Choice.{pick}
 use Rattle.fields.proofs.FieldLaws.{both, pick-yes, pick-no}
-use Rattle.fields.proofs.TestLaws.{untrue}
 use Rattle.pictures.specs.Scene.{Scene, pictureAt}
 use Rattle.pictures.specs.Depth.{largest, depthBy, depthN, depth}
 use Rattle.pictures.proofs.DepthLaws.{depth-rule}
 use Rattle.depths.specs.Inputs.{InputsAre}
-use Rattle.depths.specs.Rounds.{rowIn, inputs, inputAt, at, deepest, nextDepth, rounds, capped, Above, Low, Deeper, Deepened}
+use Rattle.depths.specs.Rounds.{inputs, inputAt, at, deepest, nextDepth, rounds, capped, Above, Low, Deepened}
 use Rattle.depths.proofs.InputLaws.{input-inside}
-
--- rowIn
-module _ (up : Bool) (n k : ℕ) where
-  pub row-up : up ≡ true → k ≡ rowIn up n k
-  unfolding rowIn pick
-  row-up e = rw e
-
-  pub row-down : up ≡ false → n - 1 - k ≡ rowIn up n k
-  unfolding rowIn pick
-  row-down e = rw e
-
--- a sweep comes to each row: to row r at place rowIn up n r
-pub row-again : (up : Bool) (n r : ℕ) → r < n → (rowIn up n r < n) × (rowIn up n (rowIn up n r) ≡ r)
-unfolding rowIn pick
-row-again true n r h = (h, refl)
-row-again false n r h = (omega arith, omega arith)
 
 -- deepest
 pub deepest-none : (f g : ℕ → ℕ) → 0 ≡ deepest f g 0
@@ -92,7 +71,7 @@ unfolding nextDepth
 next-depth t rows f r k first d e₁ e₂ e = e ∙ ap (λ (p : ℕ). deepest f (λ i. getD rows (p + i) 0) k) e₂ ∙ ap (deepest f (inputAt t rows r)) e₁
 
 -- deeper inputs, a deeper row
-next-more : (t rows : List ℕ) (f h : ℕ → ℕ) (r : ℕ) → ((i : ℕ) → f i ≤ h i) → nextDepth t rows f r ≤ nextDepth t rows h r
+pub next-more : (t rows : List ℕ) (f h : ℕ → ℕ) (r : ℕ) → ((i : ℕ) → f i ≤ h i) → nextDepth t rows f r ≤ nextDepth t rows h r
 unfolding nextDepth
 next-more t rows f h r l = deepest-over f h (inputAt t rows r) l (inputs t r)
 
@@ -145,16 +124,16 @@ module _ (t rows : List ℕ) (n : ℕ) where
   unfolding rounds
   deep-none = record { low = λ r. omega (arith, zeros 256 r); least = λ r. omega arith; most = λ top w r. omega (arith, zeros 256 r) }
 
-  module _ (k : ℕ) (a b : List ℕ) (changed : Bool) (w : Deep t rows n k a) (d : Deepened t rows n a b changed) where
+  module _ (k : ℕ) (a b : List ℕ) (again : Bool) (w : Deep t rows n k a) (d : Deepened t rows n a b again) where
     pub deep-next : k < 17 → Deep t rows n (k + 1) b
     deep-next l = record { low = d .low; least = λ r. rw (add-one k) (rounds-under t rows n k a b l (w .least) (d .done) r); most = λ top v. d .sound top v (w .most top v) }
 
-    -- where nothing changed the words follow from themselves, and no further round gives more
-    pub deep-last : changed ≡ false → Deep t rows n 17 b
+    -- where the sweep is not to be done again the words follow from themselves, and no further round gives more
+    pub deep-last : again ≡ false → Deep t rows n 17 b
     deep-last e =
         record {
           low = d .low;
-          least = rounds-still t rows n b (subst (λ (l : List ℕ). (r : ℕ) → r < n → capped (nextDepth t rows (at l) r) ≤ getD b r 0) (sym (d .quiet e)) (d .done)) 17 (omega arith);
+          least = rounds-still t rows n b (d .settled e) 17 (omega arith);
           most = λ top v. d .sound top v (w .most top v);
         }
 
@@ -178,62 +157,3 @@ pub depth-found : (t rows : List ℕ) (n k : ℕ) (a : List ℕ) → Deep t rows
 depth-found t rows n k a w e s l i r q =
     let v = subst (λ (m : ℕ). Deep t rows m 17 a) (sym l) (subst (λ (j : ℕ). Deep t rows n j a) e w) in
     omega (arith, v .least r, rounds-depth t rows s i 17 r (omega arith), v .most (λ j. depth s j) (depth-above t rows s i) r)
-
--- set: the place that is set, or another
-pub set-cases : (l : List ℕ) (r v : ℕ) → r < length l → (x : ℕ) → ((r ≡ x) × (getD (set l r v) x 0 ≡ v)) ⊎ (getD (set l r v) x 0 ≡ getD l x 0)
-set-cases l r v h x = elim (ℕ-discrete x r) [ yes e ↦ inl (sym e, subst (λ (y : ℕ). getD (set l r v) y 0 ≡ v) (sym e) (getD-set-same l r v 0 h)) | no d ↦ inr (getD-set-other l r x v 0 d) ]
-
--- Deeper
-module _ (t rows : List ℕ) (r v d w : ℕ) (l : List ℕ) (b : Low l) (f : v ≡ nextDepth t rows (at l) r) (e : d ≡ capped v) (z : w ≡ getD l r 0) where
-  pub deeper-same : d ≤ w → Deeper t rows r l l false
-  deeper-same h = record { low = b; stay = λ x. omega arith; done = omega (arith, f, e, z); only = λ x. inr refl; quiet = λ q. refl }
-
-  pub deeper-set : r < length l → w < d → Deeper t rows r l (set l r d) true
-  deeper-set h k =
-      record {
-        low = λ x. ⊎-elim (λ c. omega (arith, c .1, e)) (λ c. omega (arith, c, b x)) (set-cases l r d h x);
-        stay = λ x. ⊎-elim (λ c. omega (arith, c .1, z, ap (at l) (c .0))) (λ c. omega (arith, c)) (set-cases l r d h x);
-        done = omega (arith, f, e, getD-set-same l r d 0 h);
-        only = λ x. ⊎-elim (λ c. inl (c .0, omega (arith, c .1, f, e))) (λ c. inr c) (set-cases l r d h x);
-        quiet = λ q. untrue (sym q);
-      }
-
--- Deepening: one row after another, the row at place k is g k
-pub record Deepening (t rows : List ℕ) (n : ℕ) (g : ℕ → ℕ) (k : ℕ) (old new : List ℕ) (changed : Bool) : Type 0 where
-  pub low : Low new
-  pub stay : (x : ℕ) → getD old x 0 ≤ getD new x 0
-  pub done : (j : ℕ) → j < k → capped (nextDepth t rows (at old) (g j)) ≤ getD new (g j) 0
-  pub sound : (top : ℕ → ℕ) → Above t rows n top → ((r : ℕ) → getD old r 0 ≤ top r) → (r : ℕ) → getD new r 0 ≤ top r
-  pub quiet : changed ≡ false → new ≡ old
-
-neither : (q p : Bool) → (q || p) ≡ false → (q ≡ false) × (p ≡ false)
-neither true p e = untrue (sym e)
-neither false p e = (refl, e)
-
-module _ (t rows : List ℕ) (n : ℕ) (g : ℕ → ℕ) where
-  pub deepening-none : (l : List ℕ) → Low l → Deepening t rows n g 0 l l false
-  deepening-none l b = record { low = b; stay = λ x. omega arith; done = λ j h. absurd (omega arith); sound = λ top w h. h; quiet = λ e. refl }
-
-  pub deepening-more : (k r : ℕ) (a b c : List ℕ) (p q s : Bool) → r ≡ g k → r < n → s ≡ (q || p) → Deepening t rows n g k a b p → Deeper t rows r b c q → Deepening t rows n g (k + 1) a c s
-  deepening-more k r a b c p q s e h f d u =
-      record {
-        low = u .low;
-        stay = λ x. omega (arith, d .stay x, u .stay x);
-        done = λ j i. ⊎-elim
-            (λ z. subst (λ (y : ℕ). capped (nextDepth t rows (at a) y) ≤ getD c y 0) (e ∙ ap g (sym z)) (omega (arith, u .done, next-more t rows (at a) (at b) r (d .stay))))
-            (λ z. omega (arith, d .done j z, u .stay (g j)))
-            (eq-or-lt-of-le {n = j} {m = k} (omega arith));
-        sound = λ top w o x. let below = d .sound top w o in
-            ⊎-elim (λ z. omega (arith, z .1, next-more t rows (at b) top r below, w r h, ap top (z .0))) (λ z. omega (arith, z, below x)) (u .only x);
-        quiet = λ z. let v = neither q p (sym f ∙ z) in u .quiet (v .0) ∙ d .quiet (v .1);
-      }
-
-pub deepening-end : (t rows : List ℕ) (n : ℕ) (up : Bool) (k : ℕ) (a b : List ℕ) (p : Bool) → n ≤ k → Deepening t rows n (rowIn up n) k a b p → Deepened t rows n a b p
-deepening-end t rows n up k a b p e d =
-    record {
-      low = d .low;
-      stay = d .stay;
-      done = λ r h. let z = row-again up n r h in subst (λ (y : ℕ). capped (nextDepth t rows (at a) y) ≤ getD b y 0) (z .1) (d .done (rowIn up n r) (omega (arith, z .0)));
-      sound = d .sound;
-      quiet = d .quiet;
-    }

@@ -79,14 +79,17 @@ pub fn input_count(table: &[u32], row: ItemRow) -> usize
     views::record_word(table, row, 6) as usize
 }
 
-// Whether all inputs of an item are pictures.
+// Whether all inputs of an item are pictures. No table of a file is shorter: the one test spares each input its own.
 fn all_images(table: &[u32], rows: &[u32], row: ItemRow) -> bool
     ensures { λ r. ⌜ ((head : List ℕ) (pl : Places) (f : File) → TableOf (now (table .entry)) head pl f → Resolved (now (table .entry)) (now (rows .entry)) f → row .0 < length (f .items) → r ≡ allImages f (targetsOf f (idOf f (row .0)))) ⌝ }
 {
+    if table.len() < Table::WORDS {
+        return true;
+    }
     let n = input_count(table, row);
     let mut j: usize = 0;
     while j < n {
-        if !views::is_image(views::type_of(table, input_of(table, rows, row, j))) {
+        if !views::is_image(views::held_word(table, input_of(table, rows, row, j), 1)) {
             return false;
         }
         j += 1;
@@ -202,16 +205,10 @@ pub fn derivation_of(head: &[u8], table: &[u32], row: ItemRow) -> Derivation
     layers_of(head, table, row)
 }
 
-// 17 for the item in a row, 0 where it is not given: only derived items have inputs, and these are pictures.
-pub fn derived_fault(head: &[u8], table: &[u32], rows: &[u32], row: ItemRow) -> u32
-    ensures { λ r. ⌜ ((total : ℕ) (pl : Places) (f : File) → TableOf (now (table .entry)) (now (head .entry)) pl f → Resolved (now (table .entry)) (now (rows .entry)) f → row .0 < length (f .items) → rule13-14 total (now (head .entry)) f (itemAt f (row .0)) ≡ ok tt → r ≡ faultOf (rule17 total (now (head .entry)) f (itemAt f (row .0)))) ⌝ }
+// 17 for the derived item in a row: its body says how it is made, and its inputs are pictures.
+fn made_fault(head: &[u8], table: &[u32], rows: &[u32], row: ItemRow) -> u32
+    ensures { λ r. ⌜ ((total : ℕ) (pl : Places) (f : File) → TableOf (now (table .entry)) (now (head .entry)) pl f → Resolved (now (table .entry)) (now (rows .entry)) f → row .0 < length (f .items) → rule13-14 total (now (head .entry)) f (itemAt f (row .0)) ≡ ok tt → derived (itemAt f (row .0) .type) ≡ true → r ≡ faultOf (rule17 total (now (head .entry)) f (itemAt f (row .0)))) ⌝ }
 {
-    if !views::is_derived(views::type_of(table, row)) {
-        if input_count(table, row) == 0 {
-            return 0;
-        }
-        return 17;
-    }
     let d = derivation_of(head, table, row);
     match d {
         Derivation::Wrong => 17,
@@ -222,4 +219,17 @@ pub fn derived_fault(head: &[u8], table: &[u32], rows: &[u32], row: ItemRow) -> 
             17
         }
     }
+}
+
+// 17 for the item in a row, 0 where it is not given: only derived items have inputs. What is asked of these stands apart, so that most items hand nothing on.
+pub fn derived_fault(head: &[u8], table: &[u32], rows: &[u32], row: ItemRow) -> u32
+    ensures { λ r. ⌜ ((total : ℕ) (pl : Places) (f : File) → TableOf (now (table .entry)) (now (head .entry)) pl f → Resolved (now (table .entry)) (now (rows .entry)) f → row .0 < length (f .items) → rule13-14 total (now (head .entry)) f (itemAt f (row .0)) ≡ ok tt → r ≡ faultOf (rule17 total (now (head .entry)) f (itemAt f (row .0)))) ⌝ }
+{
+    if !views::is_derived(views::type_of(table, row)) {
+        if input_count(table, row) == 0 {
+            return 0;
+        }
+        return 17;
+    }
+    made_fault(head, table, rows, row)
 }

@@ -12,6 +12,7 @@ use Rattle.forms.proofs.StepLaws.{lead-reads, reads-got, reads-refused}
 use Rattle.contents.specs.Iinf.{Item, infe-step, iinf-count, items}
 use Rattle.items.specs.declared.CountRead.{CountRead}
 use Rattle.items.specs.declared.CountRead.the-variants as count
+use Rattle.items.specs.declared.ItemsRead.{ItemsRead}
 use Rattle.items.specs.declared.ItemsRead.the-variants as read
 use Rattle.items.specs.Told.{toldItems, ItemsLeft, CountIs, Stored}
 use Rattle.items.proofs.FillLaws.{stored-refused}
@@ -41,15 +42,16 @@ module _ (s : List ℕ) (place base : ℕ) where
         let q = items-gone (r .number) (r .place) (subst (CountIs s place) e f) in
         (sym (ap toldItems q), left-by _ t t q (stored-refused _ t t (record { same-length = refl; past = refl }) (r .number) (r .place) refl))
 
-    module _ (n at : ℕ) (e : y ≡ count.Is n at) where
-      counted : CountIs s place (count.Is n at)
-      counted = subst (CountIs s place) e f
+    -- from: the same place, as the code says it
+    module _ (n at from : ℕ) (e : y ≡ count.Is n at) (same : at ≡ from) where
+      counted : CountIs s place (count.Is n from)
+      counted = subst (CountIs s place) (e ∙ ap (count.Is n) same) f
 
-      pub count-room : (at ≤ length s) × (n ≤ 256)
+      pub count-room : (from ≤ length s) × (n ≤ 256)
       count-room = let k = counted in (k .1, k .2)
 
-      pub items-counted : items place base s ≡ exactly infe-step place n (base + at) [] (drop at s)
-      items-counted = let k = counted in items-from n at (k .1) (k .0)
+      items-counted : items place base s ≡ exactly infe-step place n (base + from) [] (drop from s)
+      items-counted = let k = counted in items-from n from (k .1) (k .0)
 
-      pub left-counted : (t u : List ℕ) → Stored (exactly infe-step place n (base + at) [] (drop at s)) t u → ItemsLeft s place base t u
-      left-counted t u h = left-by _ t u items-counted h
+      pub items-read : (r : ItemsRead) (t u : List ℕ) → (r ≡ toldItems (exactly infe-step place n (base + from) [] (drop from s))) × Stored (exactly infe-step place n (base + from) [] (drop from s)) t u → (r ≡ toldItems (items place base s)) × ItemsLeft s place base t u
+      items-read r t u h = (h .0 ∙ sym (ap toldItems items-counted), left-by _ t u items-counted (h .1))

@@ -1,5 +1,5 @@
 -- Filling the rows of a table with the items of an `iinf`: what the loop keeps, and each way out of it. Assumes nothing.
-use Prim.Native.Nat.{ℕ, suc, _+_, _*_, _-_, _%_, _≤_, _<_}
+use Prim.Native.Nat.{ℕ, suc, _+_, _*_, _-_, _≤_, _<_}
 use native.Mathlib.Nat.{eq-or-lt-of-le}
 use native.Mathlib.Numerals.{add-one}
 use native.Mathlib.Omega.{arith}
@@ -14,7 +14,7 @@ use Rattle.boxes.proofs.AnswerLaws.{ok-inj}
 use Rattle.contents.specs.Iinf.{Item, idsOf, infe-step}
 use Rattle.rules.specs.Places.{Places}
 use Rattle.records.specs.Raw.{unread, rawOf}
-use Rattle.records.specs.Rows.{idAt, idsIn}
+use Rattle.records.specs.Rows.{idAt, idsIn, slotOf}
 use Rattle.records.specs.Stage.{Kept, withItems}
 use Rattle.records.proofs.RawLaws.{raw-item}
 use Rattle.items.specs.declared.Bounds.{Bounds}
@@ -23,8 +23,8 @@ use Rattle.items.specs.declared.NextItem.{NextItem}
 use Rattle.items.specs.declared.NextItem.the-variants as next
 use Rattle.items.specs.declared.ItemsRead.{ItemsRead}
 use Rattle.items.specs.declared.ItemsRead.the-variants as read
-use Rattle.items.specs.Told.{toldItems, itemOf, NextIs, Between, rowPut, Stored}
-use Rattle.items.proofs.TableLaws.{put-kept, put-below, put-id, put-ids, seen-same, seen-still}
+use Rattle.items.specs.Told.{toldItems, itemOf, NextIs, Between, rowPut, slotPut, Stored}
+use Rattle.items.proofs.TableLaws.{put-kept, put-below, put-id, put-ids, slot-length, slot-filled, slot-still}
 use Rattle.items.proofs.StepLaws.{exactlyFrom, exactly-end, exactly-left}
 
 -- Stored
@@ -53,13 +53,13 @@ module _ (s : List ℕ) (from n place base : ℕ) (t₀ : List ℕ) where
     pub here : at ≤ length s
     pub same : answer ≡ exactlyFrom infe-step place base s (n - i) at items
     pub within : (k : ℕ) → k < i → Between b (idAt t k)
-    pub marks : length m ≡ 256
-    pub seen : (k : ℕ) → k < i → 0 < getD m (idAt t k % 256) 0
+    pub slots : 768 ≤ length m
+    pub filled : (k : ℕ) → k < i → 0 < getD m (slotOf (idAt t k)) 0
     pub ids : idsIn t i ≡ idsOf items
     pub kept : Kept t₀ t
     pub told : (pl : Places) (x : List ℕ) → t₀ ≡ rawOf [] pl unread ++ x → t ≡ rawOf [] pl (withItems items) ++ x
 
-  pub begin : (b : Bounds) (m : List ℕ) → length m ≡ 256 → from ≤ length s → So t₀ from b m 0
+  pub begin : (b : Bounds) (m : List ℕ) → 768 ≤ length m → from ≤ length s → So t₀ from b m 0
   unfolding idsIn
   begin b m z h =
       let e : n ≡ n - 0 = omega arith in
@@ -70,8 +70,8 @@ module _ (s : List ℕ) (from n place base : ℕ) (t₀ : List ℕ) where
         here = h;
         same = ap (λ (k : ℕ). exactlyFrom infe-step place base s k from []) e;
         within = λ k l. absurd (omega arith);
-        marks = z;
-        seen = λ k l. absurd (omega arith);
+        slots = z;
+        filled = λ k l. absurd (omega arith);
         ids = refl;
         kept = record { same-length = refl; past = refl };
         told = λ pl x e. e;
@@ -115,8 +115,8 @@ module _ (s : List ℕ) (from n place base : ℕ) (t₀ : List ℕ) where
         is-next : NextIs s at place base (so .items) (next.Is j end)
         is-next = subst (NextIs s at place base (so .items)) e (f (so .items) (so .ids))
 
-        pub stored : (u : List ℕ) (c : Bounds) → u ≡ rowPut t i (itemOf j) → (c .least ≤ b .least) × (c .least ≤ j .id .0) × (b .above ≤ c .above) × (j .id .0 < c .above) → So u end c (set m (j .id .0 % 256) 1) (i + 1)
-        stored u c eu w =
+        pub stored : (u : List ℕ) (c : Bounds) (v : List ℕ) → v ≡ slotPut m i (j .id .0) → u ≡ rowPut t i (itemOf j) → (c .least ≤ b .least) × (c .least ≤ j .id .0) × (b .above ≤ c .above) × (j .id .0 < c .above) → So u end c v (i + 1)
+        stored u c v ev eu w =
             let g = is-next in
             let fits : 16 + 16 * i < length t = omega (arith, so .kept .same-length) in
             record {
@@ -130,12 +130,12 @@ module _ (s : List ℕ) (from n place base : ℕ) (t₀ : List ℕ) where
                   (λ q. let z : idAt u k ≡ j .id .0 = ap (λ (v : ℕ). idAt u v) q ∙ ap (λ (v : List ℕ). idAt v i) eu ∙ put-id t i (itemOf j) fits in (omega arith, omega arith))
                   (λ q. let z : idAt u k ≡ idAt t k = ap (λ (v : List ℕ). idAt v k) eu ∙ put-below t i (itemOf j) k q in let m = so .within k q in (omega arith, omega arith))
                   (eq-or-lt-of-le {n = k} {m = i} (omega arith));
-              marks = simp length-set (so .marks);
-              seen = λ k l.
-                  ⊎-elim
-                  (λ q. let z : idAt u k ≡ j .id .0 = ap (λ (v : ℕ). idAt u v) q ∙ ap (λ (v : List ℕ). idAt v i) eu ∙ put-id t i (itemOf j) fits in rw z (seen-same m (j .id .0) (so .marks)))
-                  (λ q. let z : idAt u k ≡ idAt t k = ap (λ (v : List ℕ). idAt v k) eu ∙ put-below t i (itemOf j) k q in rw z (seen-still m (j .id .0) (idAt t k) (so .marks) (so .seen k q)))
-                  (eq-or-lt-of-le {n = k} {m = i} (omega arith));
+              slots = omega (arith, ap length ev, slot-length m i (j .id .0) (so .slots) (omega arith), so .slots);
+              filled = λ k l.
+                  rw ev (⊎-elim
+                  (λ q. let z : idAt u k ≡ j .id .0 = ap (λ (v : ℕ). idAt u v) q ∙ ap (λ (v : List ℕ). idAt v i) eu ∙ put-id t i (itemOf j) fits in rw z (slot-filled m i (j .id .0) (so .slots) (omega arith)))
+                  (λ q. let z : idAt u k ≡ idAt t k = ap (λ (v : List ℕ). idAt v k) eu ∙ put-below t i (itemOf j) k q in rw z (slot-still m i (j .id .0) (so .slots) (omega arith) (idAt t k) (so .filled k q)))
+                  (eq-or-lt-of-le {n = k} {m = i} (omega arith)));
               ids = ap (λ (v : List ℕ). idsIn v (i + 1)) eu ∙ ap (idsIn (rowPut t i (itemOf j))) (add-one i) ∙ put-ids t i (itemOf j) (so .items) fits (so .ids);
               kept = subst (Kept t₀) (sym eu) (put-kept t i (itemOf j) t₀ (omega arith) (so .kept));
               told = λ pl x q.

@@ -1,5 +1,5 @@
 -- The IDs in the rows of a table: whether one is taken, and what one more record changes. Assumes nothing.
-use Prim.Native.Nat.{ℕ, suc, _+_, _*_, _%_, _≤_, _<_}
+use Prim.Native.Nat.{ℕ, suc, _+_, _*_, _≤_, _<_}
 use native.Mathlib.Omega.{arith}
 use mathlib.Core.Path.{_≡_, refl, sym, ap, _∙_, subst}
 use mathlib.Core.List.{List, [], _∷_, _++_, map-append}
@@ -10,11 +10,11 @@ use lib.Dec.{eqb}
 use borrow.Author.Tests.{eqb-true, eqb-false}
 use Rattle.fields.specs.Lists.{member}
 use Rattle.contents.specs.Iinf.{Item, idsOf}
-use Rattle.records.specs.Rows.{idAt, idsIn}
+use Rattle.records.specs.Rows.{idAt, idsIn, slotOf}
 use Rattle.records.specs.Stage.{Kept}
 use Rattle.records.proofs.IdLaws.{ids-same, row-missing}
 use Rattle.items.specs.declared.Bounds.{Bounds}
-use Rattle.items.specs.Told.{Filling, rowPut}
+use Rattle.items.specs.Told.{Filling, rowPut, slotPut}
 
 -- an ID above or below all of them is new, and one whose remainder none has left
 module _ (t : List ℕ) (n id : ℕ) where
@@ -25,19 +25,30 @@ module _ (t : List ℕ) (n id : ℕ) where
     pub taken-low : id < b .least → member id (idsIn t n) ≡ false
     taken-low h = row-missing t n id (λ k l q. omega (arith, f .within k l .0))
 
-    pub taken-unseen : getD m (id % 256) 0 ≡ 0 → member id (idsIn t n) ≡ false
-    taken-unseen h = row-missing t n id (λ k l q. omega (arith, f .seen k l, ap (λ (x : ℕ). getD m (x % 256) 0) q, h))
+    pub taken-unfilled : getD m (slotOf id) 0 ≡ 0 → member id (idsIn t n) ≡ false
+    taken-unfilled h = row-missing t n id (λ k l q. omega (arith, f .filled k l, ap (λ (x : ℕ). getD m (slotOf x) 0) q, h))
 
--- the remainders once one more is marked
-pub seen-same : (m : List ℕ) (x : ℕ) → length m ≡ 256 → 0 < getD (set m (x % 256) 1) (x % 256) 0
-seen-same m x e = omega (arith, getD-set-same m (x % 256) 1 0 (omega arith))
+-- slotPut: slots once one more row is in
+pub slot-put : (m : List ℕ) (r x p : ℕ) → p ≡ slotOf x → set (set m (512 + r) (getD m p 0)) p (r + 1) ≡ slotPut m r x
+unfolding slotPut
+slot-put m r x p e = ap (λ (k : ℕ). set (set m (512 + r) (getD m k 0)) k (r + 1)) e
 
-pub seen-still : (m : List ℕ) (x y : ℕ) → length m ≡ 256 → 0 < getD m (y % 256) 0 → 0 < getD (set m (x % 256) 1) (y % 256) 0
-seen-still m x y e h = by (eqb (y % 256) (x % 256)) refl
-  where
-    by : (t : Bool) → eqb (y % 256) (x % 256) ≡ t → 0 < getD (set m (x % 256) 1) (y % 256) 0
-    by true q = subst (λ (k : ℕ). 0 < getD (set m (x % 256) 1) k 0) (sym (eqb-true _ _ q)) (seen-same m x e)
-    by false q = omega (arith, h, getD-set-other m (x % 256) (y % 256) 1 0 (eqb-false _ _ q))
+module _ (m : List ℕ) (r x : ℕ) (e : 768 ≤ length m) (h : r < 256) where
+  pub slot-length : length (slotPut m r x) ≡ length m
+  unfolding slotPut
+  slot-length = simp length-set refl
+
+  pub slot-filled : 0 < getD (slotPut m r x) (slotOf x) 0
+  unfolding slotPut
+  slot-filled = omega (arith, getD-set-same (set m (512 + r) (getD m (slotOf x) 0)) (slotOf x) (r + 1) 0 (simp length-set (omega arith)))
+
+  pub slot-still : (y : ℕ) → 0 < getD m (slotOf y) 0 → 0 < getD (slotPut m r x) (slotOf y) 0
+  unfolding slotPut
+  slot-still y g = by (eqb (slotOf y) (slotOf x)) refl
+    where
+      by : (t : Bool) → eqb (slotOf y) (slotOf x) ≡ t → 0 < getD (slotPut m r x) (slotOf y) 0
+      by true q = subst (λ (k : ℕ). 0 < getD (slotPut m r x) k 0) (sym (eqb-true _ _ q)) slot-filled
+      by false q = omega (arith, g, getD-set-other (set m (512 + r) (getD m (slotOf x) 0)) (slotOf x) (slotOf y) (r + 1) 0 (eqb-false _ _ q), getD-set-other m (512 + r) (slotOf y) (getD m (slotOf x) 0) 0 (λ q. omega arith))
 
 -- rowPut
 module _ (t : List ℕ) (r : ℕ) (i : Item) where

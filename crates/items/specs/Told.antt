@@ -6,8 +6,9 @@
 --   InfeIs ids s p r  r is what the content s of an `infe` at p says, where ids are the IDs of the items before it
 --   CountIs s p r     r is what the front of the content s of an `iinf` at p says
 --   NextIs ..         r is what the next box of an `iinf` says
---   Filling t n b m   a table with records in n rows, whose IDs all lie in the bounds b and leave remainders of 256 that m marks
+--   Filling t n b m   a table with records in n rows, whose IDs all lie in the bounds b and have their slots in m filled
 --   rowPut t r i      a table after an item's words went into row r
+--   slotPut m r id    slots after row r went into that of its ID
 --   Stored a t u      the table t, all 0, became that of the items of the answer a
 use Prim.Native.Nat.{ℕ, suc, _+_, _*_, _%_, _≤_, _<_}
 use mathlib.Core.Path.{_≡_}
@@ -19,7 +20,7 @@ use Rattle.forms.specs.Form.{got, front}
 use Rattle.contents.specs.Iinf.{Item, idsOf, infe-form, infe-step, iinf-count, items}
 use Rattle.rules.specs.Places.{Places}
 use Rattle.records.specs.Raw.{unread, rawOf}
-use Rattle.records.specs.Rows.{idAt}
+use Rattle.records.specs.Rows.{idAt, slotOf}
 use Rattle.records.specs.Stage.{Kept, withItems}
 use Rattle.items.specs.declared.Bounds.{Bounds}
 use Rattle.items.specs.declared.Info.{Info}
@@ -71,10 +72,13 @@ pub record Filling (t : List ℕ) (n : ℕ) (b : Bounds) (m : List ℕ) : Type 0
   pub room : 11280 ≤ length t
   pub few : n ≤ 256
   pub within : (k : ℕ) → k < n → Between b (idAt t k)
-  pub seen : (k : ℕ) → k < n → 0 < getD m (idAt t k % 256) 0
+  pub filled : (k : ℕ) → k < n → 0 < getD m (slotOf (idAt t k)) 0
 
 unfoldable pub rowPut : List ℕ → ℕ → Item → List ℕ
 rowPut t r i = set (set (set (set t (16 + 16 * r) (i .id)) (16 + 16 * r + 1) (i .type)) (16 + 16 * r + 2) (i .hidden)) (16 + 16 * r + 12) (i .protection)
+
+unfoldable pub slotPut : List ℕ → ℕ → ℕ → List ℕ
+slotPut m r id = set (set m (512 + r) (getD m (slotOf id) 0)) (slotOf id) (r + 1)
 
 pub record Stored (a : Answer (List Item)) (t u : List ℕ) : Type 0 where
   pub kept : Kept t u

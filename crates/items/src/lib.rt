@@ -12,7 +12,7 @@ ghost use Rattle.forms.specs.Form.{Form, got};
 ghost use Rattle.contents.specs.Full.{Full, full, between, upto, idBytes};
 ghost use Rattle.contents.specs.Iinf.{Item, idsOf, infe-step, items};
 ghost use Rattle.records.specs.Rows.{idsIn};
-ghost use Rattle.items.specs.Told.{toldItems, ItemsLeft, itemOf, InfeIs, CountIs, NextIs, Filling, rowPut, Stored};
+ghost use Rattle.items.specs.Told.{toldItems, ItemsLeft, itemOf, InfeIs, CountIs, NextIs, Filling, rowPut, slotPut, Stored};
 use boxes::Child;
 use boxes::Refusal;
 use contents::FullRead;
@@ -46,9 +46,9 @@ const NO_BOUNDS: Bounds = Bounds {
     above: 0,
 };
 
-// Whether an ID is that of one of the first n rows, all of whose IDs lie in bounds and leave remainders that were seen: most writers' IDs rise, some writers' fall, and of those in no order few leave one remainder twice. Then no row is looked at.
-fn is_taken(table: &[u32], n: usize, id: ItemId, bounds: Bounds, seen: &[u32]) -> bool
-    requires { ⌜ Filling (now table) n bounds (now seen) ⌝ }
+// Whether an ID is that of one of the first n rows, all of whose IDs lie in bounds and have their slots filled: most writers' IDs rise, some writers' fall, and of those in no order few fall into a slot that is filled. Then no row is looked at.
+fn is_taken(table: &[u32], n: usize, id: ItemId, bounds: Bounds, slots: &[u32]) -> bool
+    requires { ⌜ Filling (now table) n bounds (now slots) ⌝ }
     ensures { λ r. ⌜ r ≡ member (id .0) (idsIn (now (table .entry)) n) ⌝ }
 {
     let x = id.0 as u64;
@@ -58,10 +58,10 @@ fn is_taken(table: &[u32], n: usize, id: ItemId, bounds: Bounds, seen: &[u32]) -
     if x < bounds.least {
         return false;
     }
-    if table::word(seen, (id.0 % 256) as usize) == 0 {
+    if table::word(slots, records::slot_of(id)) == 0 {
         return false;
     }
-    let f = records::row_of(table, n, id, ItemRow(0));
+    let f = records::row_in_slot(table, n, id, slots);
     match f {
         FoundRow::At(_) => true,
         FoundRow::Nothing => false,
@@ -77,16 +77,16 @@ fn read_info(
     table: &[u32],
     n: usize,
     bounds: Bounds,
-    seen: &[u32],
+    slots: &[u32],
 ) -> InfeRead
-    requires { ⌜ (4 ≤ length (now s)) × ((w ≡ 2) ⊎ (w ≡ 4)) × Filling (now table) n bounds (now seen) ⌝ }
+    requires { ⌜ (4 ≤ length (now s)) × ((w ≡ 2) ⊎ (w ≡ 4)) × Filling (now table) n bounds (now slots) ⌝ }
     ensures { λ r. ⌜ ((v : ℕ) → full (between 2 3) .read place (now (s .entry)) ≡ got (record { version = v; flags = flags }) (drop 4 (now (s .entry))) → pick (eqb v 2) 2 4 ≡ w → InfeIs (idsIn (now (table .entry)) n) (now (s .entry)) place r) ⌝ }
 {
     if s.len() < 4 + w {
         return InfeRead::Refused(Refusal { number: 8, place });
     }
     let id = ItemId(fields::be_id(s, 4, w));
-    if is_taken(table, n, id, bounds, seen) {
+    if is_taken(table, n, id, bounds, slots) {
         return InfeRead::Refused(Refusal { number: 10, place });
     }
     if s.len() < 10 + w {
@@ -107,9 +107,9 @@ fn read_infe(
     table: &[u32],
     n: usize,
     bounds: Bounds,
-    seen: &[u32],
+    slots: &[u32],
 ) -> InfeRead
-    requires { ⌜ Filling (now table) n bounds (now seen) ⌝ }
+    requires { ⌜ Filling (now table) n bounds (now slots) ⌝ }
     ensures { λ r. ⌜ InfeIs (idsIn (now (table .entry)) n) (now (s .entry)) place r ⌝ }
 {
     let h = contents::read_full(s, 2, 3, place);
@@ -117,9 +117,9 @@ fn read_infe(
         FullRead::Refused(r) => InfeRead::Refused(r),
         FullRead::Is { version, flags } => {
             if version == 2 {
-                return read_info(s, 2, flags, place, table, n, bounds, seen);
+                return read_info(s, 2, flags, place, table, n, bounds, slots);
             }
-            read_info(s, 4, flags, place, table, n, bounds, seen)
+            read_info(s, 4, flags, place, table, n, bounds, slots)
         }
     }
 }
@@ -142,9 +142,9 @@ fn next_item(
     table: &[u32],
     n: usize,
     bounds: Bounds,
-    seen: &[u32],
+    slots: &[u32],
 ) -> NextItem
-    requires { ⌜ (base + length (now s) < 18446744073709551616) × (at ≤ length (now s)) × Filling (now table) n bounds (now seen) ⌝ }
+    requires { ⌜ (base + length (now s) < 18446744073709551616) × (at ≤ length (now s)) × Filling (now table) n bounds (now slots) ⌝ }
     ensures { λ r. ⌜ ((before : List Item) → idsIn (now (table .entry)) n ≡ idsOf before → NextIs (now (s .entry)) at place base before r) ⌝ }
 {
     let c = boxes::child_at(s, at);
@@ -157,7 +157,7 @@ fn next_item(
                     place: here,
                 });
             }
-            let r = read_infe(&s[body..end], here, table, n, bounds, seen);
+            let r = read_infe(&s[body..end], here, table, n, bounds, slots);
             match r {
                 InfeRead::Is(info) => NextItem::Is { info, end },
                 InfeRead::Refused(f) => NextItem::Refused(f),
@@ -183,6 +183,17 @@ fn put_item(table: &mut [u32], row: ItemRow, info: Info)
     table[a + 1] = info.kind;
     table[a + 2] = info.hidden;
     table[a + 12] = info.protection;
+}
+
+// A row into the slot of its ID, as records::row_in_slot looks for it.
+fn put_slot(slots: &mut [u32], id: ItemId, row: ItemRow)
+    requires { ⌜ (768 ≤ length (now slots)) × (row .0 < 256) ⌝ }
+    ensures { λ _. ⌜ now (slots .exit) ≡ slotPut (now (slots .entry)) (row .0) (id .0) ⌝ }
+{
+    let slot = records::slot_of(id);
+    let k = row.0;
+    slots[512 + k] = slots[slot];
+    slots[slot] = k as u32 + 1;
 }
 
 // The larger of two numbers.
@@ -253,7 +264,7 @@ fn count_of(s: &[u8], w: usize, place: u64) -> CountRead
     }
 }
 
-// The n items whose boxes begin at a place of s, into the first n rows.
+// The n items whose boxes begin at a place of s, into the first n rows, and these into the slots of their IDs.
 fn fill_items(
     s: &[u8],
     from: usize,
@@ -261,18 +272,17 @@ fn fill_items(
     place: u64,
     base: u64,
     table: &mut [u32],
+    slots: &mut [u32],
 ) -> ItemsRead
-    requires { ⌜ (11280 ≤ length (now table)) × (base + length (now s) < 18446744073709551616) × (from ≤ length (now s)) × (n ≤ 256) ⌝ }
+    requires { ⌜ (11280 ≤ length (now table)) × (768 ≤ length (now slots)) × (base + length (now s) < 18446744073709551616) × (from ≤ length (now s)) × (n ≤ 256) ⌝ }
     ensures { λ r. ⌜ r ≡ toldItems (exactly infe-step place n (base + from) [] (drop from (now (s .entry)))) ⌝ }
     ensures { λ _. ⌜ Stored (exactly infe-step place n (base + from) [] (drop from (now (s .entry)))) (now (table .entry)) (now (table .exit)) ⌝ }
 {
     let mut at = from;
     let mut bounds = NO_BOUNDS;
-    // For each of 256 remainders 1 where an ID left it.
-    let mut seen = [0u32; 256];
     let mut i: usize = 0;
     while i < n {
-        let t = next_item(s, at, place, base, &*table, i, bounds, &seen);
+        let t = next_item(s, at, place, base, &*table, i, bounds, &*slots);
         match t {
             NextItem::Refused(r) => {
                 return ItemsRead::Refused(r);
@@ -281,7 +291,7 @@ fn fill_items(
                 let id = info.id;
                 put_item(table, ItemRow(i), info);
                 bounds = widened(bounds, id);
-                seen[(id.0 % 256) as usize] = 1;
+                put_slot(slots, id, ItemRow(i));
                 at = end;
                 i += 1;
             }
@@ -294,14 +304,26 @@ fn fill_items(
 }
 
 // The items of the `iinf` at a place, whose content s begins at `base`, into the records of a table that is all 0.
-pub fn read_items(s: &[u8], place: u64, base: u64, table: &mut [u32]) -> ItemsRead
-    requires { ⌜ (11280 ≤ length (now table)) × (base + length (now s) < 18446744073709551616) ⌝ }
+pub fn read_items(
+    s: &[u8],
+    place: u64,
+    base: u64,
+    table: &mut [u32],
+    slots: &mut [u32],
+) -> ItemsRead
+    requires { ⌜ (11280 ≤ length (now table)) × (768 ≤ length (now slots)) × (base + length (now s) < 18446744073709551616) ⌝ }
     ensures { λ r. ⌜ r ≡ toldItems (items place base (now (s .entry))) ⌝ }
     ensures { λ _. ⌜ ItemsLeft (now (s .entry)) place base (now (table .entry)) (now (table .exit)) ⌝ }
 {
     let c = read_count(s, place);
     match c {
         CountRead::Refused(r) => ItemsRead::Refused(r),
-        CountRead::Is { count, at } => fill_items(s, at, count, place, base, table),
+        CountRead::Is { count, at } => {
+            // Two calls, one for each width of the count: of a function with one call the compiler makes a part of its caller, and reading becomes one function that keeps its counters in memory.
+            if at == 6 {
+                return fill_items(s, 6, count, place, base, table, slots);
+            }
+            fill_items(s, at, count, place, base, table, slots)
+        }
     }
 }

@@ -13,12 +13,15 @@ use Rattle.contents.specs.File.{File}
 use Rattle.pictures.specs.Scene.{Scene}
 use Rattle.pictures.specs.Depth.{depth}
 use Rattle.rules.specs.Joined.{rowOf}
-use Rattle.rules.specs.Places.{placesIn}
+use Rattle.rules.specs.Places.{Places, placesIn}
 use Rattle.rules.specs.Derivations.{sceneOf}
 use Rattle.rules.specs.Rules.{goodPrimary, inOrder, rule12, rule15-16, judged}
 use Rattle.rules.specs.Words.{wordsOf}
 use Rattle.records.specs.Raw.{Bounded}
+use Rattle.records.specs.Rows.{Rowed}
+use Rattle.records.specs.declared.FoundRow.the-variants.{At}
 use Rattle.views.specs.View.{TableOf, AllPlaced, AllFed}
+use Rattle.views.proofs.LookupLaws.{told-at, found-told}
 use Rattle.views.proofs.ViewLaws.{read-view, raw-judging, placed-view}
 use Rattle.views.proofs.FillLaws.{filled-none, filled-all, filled-target, words-sized}
 use Rattle.depths.specs.Inputs.{InputsAre}
@@ -49,6 +52,12 @@ module _ (total : ℕ) (head : List ℕ) (f : File) where
   judged-parts : judged total head f ≡ (rule12 f >> (placedJudged >> restJudged total head f))
   unfolding judged restJudged picturesJudged ruleBy
   judged-parts = simp then-then
+
+-- the rows that were read beside the targets are those of the items that they name
+pub rowed-resolved : (t rows head : List ℕ) (pl : Places) (f : File) → TableOf t head pl f → Rowed t rows → Resolved t rows f
+rowed-resolved t rows head pl f v h k l =
+    let id = getD t (7184 + k) 0 in
+    told-at id (f .items) (record { 0 = getD rows k 0 }) (found-told v id (getD t 0 0) (At (record { 0 = getD rows k 0 })) (v .items) (h k (omega (arith, v .targets)))) .0
 
 -- what is refused leaves nothing to say of the table
 pub refused-by : (head : List ℕ) (total : ℕ) (f : File) (x : List ℕ) (y : Refusal) (u : List ℕ) → Refused y ≡ toldJudged (judged total head f) → JudgedBy head total f x (Refused y) u

@@ -1,7 +1,6 @@
 -- What judging comes to, rule after rule. Assumes nothing.
-use Prim.Native.Nat.{ℕ, zero, suc, _+_, _-_, _<_, _≤_}
+use Prim.Native.Nat.{ℕ, zero, suc, _+_, _<_, _≤_}
 use native.Mathlib.Nat.{add-zero, zero-add, eq-or-lt-of-le}
-use native.Mathlib.Numerals.{add-one}
 use native.Mathlib.Omega.{arith}
 use mathlib.Core.Path.{_≡_, refl, sym, ap, _∙_, subst}
 use mathlib.Core.List.{List, [], _∷_}
@@ -17,17 +16,16 @@ use Rattle.pictures.specs.Depth.{derivesItself, depth}
 use Rattle.rules.specs.Joined.{noItem, itemAt}
 use Rattle.rules.specs.Places.{placesIn}
 use Rattle.rules.specs.Derivations.{sceneOf}
-use Rattle.rules.specs.Rules.{inOrder, rule20, byDepth}
+use Rattle.rules.specs.Rules.{inOrder, byDepth}
 use Rattle.rules.proofs.RuleLaws.{in-order-each}
 use Rattle.views.specs.View.{AllPlaced, AllFed, recordWord}
 use Rattle.depths.specs.Inputs.{InputsAre}
 use Rattle.sizing.specs.Drawn.{Drawn}
 use Rattle.judging.specs.Order.{ruleBy, picturesJudged, NoneDeeper, toldJudged}
 use Rattle.judging.specs.declared.Rule.{Rule}
-use Rattle.judging.specs.declared.Rule.the-variants.{Placed, Derived, Itself, Deep, Sized}
-use Rattle.judging.specs.declared.Judged.{Judged}
+use Rattle.judging.specs.declared.Rule.the-variants.{Placed, Derived, Itself, Deep}
 use Rattle.judging.specs.declared.Judged.the-variants.{Good, Refused}
-use Rattle.judging.proofs.SceneLaws.{scene-long, inputs-are, shallow-itself, itself-kept, deep-kept, other-depth, deep-word}
+use Rattle.judging.proofs.SceneLaws.{scene-long, inputs-are, shallow-itself, itself-kept, deep-kept, deep-word}
 
 -- toldJudged: the first of two rules refuses, or the second decides
 module _ (m k : Answer (Unit {0})) where
@@ -63,34 +61,26 @@ kept-order rule r (i ∷ is) h =
 pub kept-all : (rule : ℕ → Item → Answer (Unit {0})) (f : File) → ((r : ℕ) → r < length (f .items) → rule r (itemAt f r) ≡ ok tt) → inOrder rule 0 (f .items) ≡ ok tt
 kept-all rule f h = kept-order rule 0 (f .items) (λ k l. rw zero-add (h k l))
 
+-- inOrder: what refuses the item in row k, where every item before it keeps the rule
+refused-order : (rule : ℕ → Item → Answer (Unit {0})) (r : ℕ) (items : List Item) (k n p : ℕ) → k < length items → ((j : ℕ) → j < k → rule (r + j) (getD items j noItem) ≡ ok tt) → rule (r + k) (getD items k noItem) ≡ refuse n p
+    → inOrder rule r items ≡ refuse n p
+unfolding inOrder _>>_
+refused-order rule r [] k n p l h e = absurd (omega arith)
+refused-order rule r (i ∷ is) zero n p l h e = rw (rw add-zero at e)
+refused-order rule r (i ∷ is) (suc k) n p l h e =
+    let q = refused-order rule (suc r) is k n p (omega arith) (λ j m. let z : suc r + j ≡ r + suc j = omega arith in rw z (h (suc j) (omega arith))) (let z : suc r + k ≡ r + suc k = omega arith in rw z e) in
+    rw (rw add-zero at (h 0 (omega arith))) q
+
+pub refused-at : (rule : ℕ → Item → Answer (Unit {0})) (f : File) (k n p : ℕ) → k < length (f .items) → ((r : ℕ) → r < k → rule r (itemAt f r) ≡ ok tt) → rule k (itemAt f k) ≡ refuse n p → inOrder rule 0 (f .items) ≡ refuse n p
+refused-at rule f k n p l h e = refused-order rule 0 (f .items) k n p l (λ r m. rw zero-add (h r m)) (rw zero-add e)
+
 -- the largest of g 0, g 1 .. so far, and one more
 pub none-larger : (g : ℕ → ℕ) (r a d b : ℕ) → ((j : ℕ) → j < r → j < 256 → g j ≤ a) → (r < 256 → d ≡ g r) → (a ≤ b) × (d ≤ b) → (j : ℕ) → j < r + 1 → j < 256 → g j ≤ b
 none-larger g r a d b h e q j k l =
     ⊎-elim (λ z. subst (λ (i : ℕ). g i ≤ b) (sym z) (omega (arith, e (omega arith), q .1))) (λ z. omega (arith, h j z l, q .0)) (eq-or-lt-of-le {n = j} {m = r} (omega arith))
 
--- byDepth
+-- 18 and 19
 module _ (total : ℕ) (head : List ℕ) (f : File) where
-  abbrev pub deeper : ℕ → Answer (Unit {0})
-  deeper d = byDepth (sceneOf total head f) (f .items) (17 - d) d
-
-  abbrev pub atDepth : ℕ → Answer (Unit {0})
-  atDepth d = inOrder (ruleBy (Sized d) total head f) 0 (f .items)
-
-  deeper-next : (d : ℕ) → d < 17 → deeper d ≡ (atDepth d >> deeper (d + 1))
-  unfolding byDepth ruleBy
-  deeper-next d h = let e : 17 - d ≡ suc (17 - (d + 1)) = omega arith in rw (e, add-one)
-
-  pub depth-off : (d : ℕ) → d < 17 → deeper 0 ≡ deeper d → (x : Refusal) → toldJudged (atDepth d) ≡ Refused x → Refused x ≡ toldJudged (deeper 0)
-  depth-off d h e x t = told-off (atDepth d) (deeper (d + 1)) x t ∙ ap toldJudged (sym (e ∙ deeper-next d h))
-
-  pub depth-on : (d : ℕ) → d < 17 → deeper 0 ≡ deeper d → toldJudged (atDepth d) ≡ Good → deeper 0 ≡ deeper (d + 1)
-  depth-on d h e t = e ∙ deeper-next d h ∙ told-on (atDepth d) (deeper (d + 1)) t
-
-  pub depth-end : (d : ℕ) → 17 ≤ d → deeper 0 ≡ deeper d → Good ≡ toldJudged (deeper 0)
-  unfolding byDepth toldJudged
-  depth-end d h e = let z : 17 - d ≡ 0 = omega arith in rw (e, z)
-
-  -- 18 and 19
   itself-all : ((r : ℕ) → r < length (f .items) → derivesItself (sceneOf total head f) r ≡ false) → inOrder (ruleBy Itself total head f) 0 (f .items) ≡ ok tt
   unfolding ruleBy
   itself-all h = kept-all (ruleBy Itself total head f) f (λ r m. itself-kept total head f r (itemAt f r) (h r m))
@@ -106,24 +96,13 @@ module _ (total : ℕ) (head : List ℕ) (f : File) where
       let i = inputs-are total head f t rows (placesIn total head) (v .view) (v .resolved) (v .fed) in
       ap toldJudged (sym (itself-all (λ r m. h (sceneOf total head f) (scene-long total head f ∙ sym (e ∙ v .view .items)) i r (omega (arith, e, v .view .items)))))
 
-  -- past the deepest picture nothing is refused
-  none-deeper : (w : ℕ) → ((r : ℕ) → r < length (f .items) → depth (sceneOf total head f) r ≤ w) → (n d : ℕ) → w < d → byDepth (sceneOf total head f) (f .items) n d ≡ ok tt
-  unfolding byDepth _>>_
-  none-deeper w h zero d l = refl
-  none-deeper w h (suc n) d l =
-      rw (kept-all (rule20 (sceneOf total head f) d) f (λ r m. other-depth total head f r d (itemAt f r) (λ e. absurd (omega (arith, h r m, e))))) (none-deeper w h n (suc d) (omega arith))
-
   -- the depths of the scene by the table's words
   module _ {t rows : List ℕ} (v : Drawn t rows head total f) (w : ℕ) (h : NoneDeeper t w) where
     none-over : (r : ℕ) → r < length (f .items) → depth (sceneOf total head f) r ≤ w
     none-over r m = omega (arith, deep-word total head f v r m (recordWord t r 14) refl, h r (omega (arith, v .view .items)) (omega (arith, v .view .bounded .few-items)))
 
-    pub depth-past : (d : ℕ) → w < d → deeper 0 ≡ deeper d → Good ≡ toldJudged (deeper 0)
-    unfolding toldJudged
-    depth-past d l e = ap toldJudged (sym (e ∙ none-deeper w none-over (17 - d) d l))
-
     -- where nothing lies over 16 deep, 18 and 19 refuse nothing
-    pub pictures-shallow : w ≤ 16 → picturesJudged total head f ≡ deeper 0
+    pub pictures-shallow : w ≤ 16 → picturesJudged total head f ≡ byDepth (sceneOf total head f) (f .items) 17 0
     unfolding picturesJudged _>>_
     pictures-shallow l = rw (itself-all (λ r m. shallow-itself total head f r (omega (arith, none-over r m))), deep-all (λ r m. omega (arith, none-over r m)))
 

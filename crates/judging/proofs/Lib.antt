@@ -2,3 +2,4 @@ pub mod OrderLaws
 pub mod SceneLaws
 pub mod JudgedLaws
 pub mod JudgeLaws
+pub mod MisfitLaws

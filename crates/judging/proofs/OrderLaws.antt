@@ -4,14 +4,13 @@ use native.Mathlib.Omega.{arith}
 use mathlib.Core.Path.{_≡_, refl, sym, ap, _∙_, subst}
 use mathlib.Core.List.{List}
 use lib.ListN.{length}
-use Rattle.fields.proofs.FieldLaws.{both}
 use Rattle.boxes.specs.Answer.{Answer, ok, refuse, _>>=_}
 use Rattle.contents.specs.Iinf.{Item}
 use Rattle.contents.specs.File.{File}
 use Rattle.pictures.specs.Recipe.{Recipe}
 use Rattle.rules.specs.Joined.{itemAt}
 use Rattle.rules.specs.Derivations.{asRule17}
-use Rattle.rules.specs.Rules.{rule13-14, rule17, rule18, rule19, rule20}
+use Rattle.rules.specs.Rules.{rule13-14, rule17, rule18, rule19}
 use Rattle.rules.specs.Places.{placesIn}
 use Rattle.views.specs.View.{TableOf}
 use Rattle.views.specs.Told.{faultOf}
@@ -19,7 +18,7 @@ use Rattle.sizing.proofs.OrderLaws.{Blames, check-blames, then-blames}
 use Rattle.sizing.proofs.OrderLaws as orders
 use Rattle.judging.specs.Order.{ruleBy, Ready, toldJudged}
 use Rattle.judging.specs.declared.Rule.{Rule}
-use Rattle.judging.specs.declared.Rule.the-variants.{Placed, Derived, Itself, Deep, Sized}
+use Rattle.judging.specs.declared.Rule.the-variants.{Placed, Derived, Itself, Deep}
 use Rattle.judging.specs.declared.Judged.the-variants.{Good, Refused}
 
 recipe-blames : (id : ℕ) (m : Answer Recipe) → Blames id (asRule17 id m >>= (λ (r : Recipe). ok tt))
@@ -29,12 +28,11 @@ recipe-blames id (refuse n p) = (refl, omega arith)
 
 -- ruleBy
 rule-blames : (rule : Rule) (total : ℕ) (head : List ℕ) (f : File) (r : ℕ) (i : Item) → Blames (i .id) (ruleBy rule total head f r i)
-unfolding ruleBy rule13-14 rule17 rule18 rule19 rule20
+unfolding ruleBy rule13-14 rule17 rule18 rule19
 rule-blames Placed total head f r i = then-blames (i .id) _ _ (check-blames 13 _ _ (omega arith)) (check-blames 14 _ _ (omega arith))
 rule-blames Derived total head f r i = recipe-blames (i .id) _
 rule-blames Itself total head f r i = check-blames 18 _ _ (omega arith)
 rule-blames Deep total head f r i = check-blames 19 _ _ (omega arith)
-rule-blames (Sized d) total head f r i = both (Blames (i .id)) _ _ _ (λ e. check-blames 20 _ _ (omega arith)) (λ e. tt)
 
 -- inOrder
 module _ (rule : Rule) (total : ℕ) (head : List ℕ) (f : File) where
@@ -71,4 +69,3 @@ module _ (t rows head : List ℕ) (total idat : ℕ) (f : File) where
   ready-view Derived w = w .0 .view
   ready-view Itself w = w .view
   ready-view Deep w = w .view
-  ready-view (Sized d) w = w .view

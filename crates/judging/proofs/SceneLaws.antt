@@ -1,26 +1,26 @@
--- What the table with its resolved rows says of the scene, and rules 18 to 20 by its words. Assumes nothing.
+-- What the table with its resolved rows says of the scene, and rules 18 and 19 by its words. Assumes nothing.
 use Prim.Native.Nat.{ℕ, suc, _+_, _*_, _<_, _≤_}
 use native.Mathlib.Omega.{arith}
 use mathlib.Core.Path.{_≡_, refl, sym, ap, _∙_}
 use mathlib.Core.List.{List, [], _∷_, map}
-use mathlib.Core.Bool.{Bool, true, false, not, _||_}
+use mathlib.Core.Bool.{Bool, true, false, _||_}
 use lib.ListN.{length, getD, length-map}
-use borrow.Author.Tests.{le-leb, lt-leb, eq-eqb, ne-eqb}
+use borrow.Author.Tests.{le-leb, lt-leb}
 use Rattle.fields.specs.Lists.{All, member}
-use Rattle.fields.proofs.FieldLaws.{pick-yes, pick-no}
-use Rattle.fields.proofs.TestLaws.{untrue, both-and, and-none}
+use Rattle.fields.proofs.FieldLaws.{pick-no}
+use Rattle.fields.proofs.TestLaws.{untrue}
 use Rattle.boxes.specs.Answer.{ok, check}
 use Rattle.boxes.specs.Types.{coded, derived, image}
 use Rattle.boxes.proofs.AnswerLaws.{bind-ok, then-ok, check-ok}
 use Rattle.contents.specs.Iinf.{Item, idsOf}
 use Rattle.contents.specs.File.{File}
-use Rattle.pictures.specs.Scene.{Picture, Scene, pictureAt, goodSizes}
+use Rattle.pictures.specs.Scene.{Picture, Scene, pictureAt}
 use Rattle.pictures.specs.Depth.{derivesItself, depth}
 use Rattle.pictures.proofs.DepthLaws.{shallow-no-loop, itself-derives}
 use Rattle.rules.specs.Joined.{targetsOf, rowOf, itemAt}
 use Rattle.rules.specs.Places.{Places}
 use Rattle.rules.specs.Derivations.{recipeFor, pictureOf, sceneOf}
-use Rattle.rules.specs.Rules.{rule17, rule18, rule19, rule20}
+use Rattle.rules.specs.Rules.{rule17, rule18, rule19}
 use Rattle.rules.proofs.DerivationLaws.{nothing-in, rule-17-ok}
 use Rattle.rules.proofs.SceneLaws.{picture-at, inputs-at}
 use Rattle.views.specs.View.{TableOf, AllFed, recordWord, idOf}
@@ -124,12 +124,7 @@ module _ (total : ℕ) (head : List ℕ) (f : File) where
   unfolding rule19 check
   deep-kept r i l = rw (le-leb (depth s r) 16 l)
 
-  -- rule 20 says nothing of a picture of another depth
-  pub other-depth : (r k : ℕ) (i : Item) → (depth s r ≡ k → ⊥) → rule20 s k r i ≡ ok tt
-  unfolding rule20
-  other-depth r k i n = pick-no _ _ (and-none (image (i .type)) _ (ne-eqb (depth s r) k n))
-
-  -- rules 18 to 20
+  -- rules 18 and 19, by the words
   module _ {t rows : List ℕ} (d : Drawn t rows head total f) (r : ℕ) (h : r < length (f .items)) where
     pub deep-word : (w : ℕ) → w ≡ recordWord t r 14 → w ≡ depth s r
     deep-word w e = e ∙ d .sizes .depths r (rw scene-long h)
@@ -150,22 +145,3 @@ module _ (total : ℕ) (head : List ℕ) (f : File) where
     pub deep-over : (w : ℕ) → w ≡ recordWord t r 14 → 16 < w → 19 ≡ faultOf (rule19 s r (itemAt f r))
     unfolding rule19 check faultOf
     deep-over w e l = rw (lt-leb (depth s r) 16 (omega (arith, deep-word w e)))
-
-    -- of the depth that 20 is asked for, or not
-    pub size-other : (w k : ℕ) → w ≡ recordWord t r 14 → (w ≡ k → ⊥) → 0 ≡ faultOf (rule20 s k r (itemAt f r))
-    unfolding faultOf
-    size-other w k e n = ap faultOf (sym (other-depth r k (itemAt f r) (λ q. n (deep-word w e ∙ q))))
-
-    pub size-opaque : (k : ℕ) → false ≡ image (itemAt f r .type) → 0 ≡ faultOf (rule20 s k r (itemAt f r))
-    unfolding rule20 faultOf
-    size-opaque k e = ap faultOf (sym (pick-no _ _ (rw (← e))))
-
-    -- a picture of that depth
-    pub size-told : (w k : ℕ) → w ≡ recordWord t r 14 → w ≡ k → true ≡ image (itemAt f r .type) → (b : Bool) → b ≡ goodSizes s (pictureAt s r) → faultBy (not b) 20 ≡ faultOf (rule20 s k r (itemAt f r))
-    unfolding rule20 faultOf check
-    size-told w k e q i b g =
-        by b g ∙ ap faultOf (sym (pick-yes (check 20 (itemAt f r .id) (goodSizes s (pictureAt s r))) (ok tt) (both-and _ _ (sym i) (eq-eqb (depth s r) k (sym (deep-word w e) ∙ q)))))
-      where
-        by : (b : Bool) → b ≡ goodSizes s (pictureAt s r) → faultBy (not b) 20 ≡ faultOf (check 20 (itemAt f r .id) (goodSizes s (pictureAt s r)))
-        by true g = rw (← g)
-        by false g = rw (← g)

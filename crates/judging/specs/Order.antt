@@ -15,14 +15,14 @@ use Rattle.contents.specs.Iinf.{Item}
 use Rattle.contents.specs.File.{File, readFile}
 use Rattle.rules.specs.Places.{Places, placesIn}
 use Rattle.rules.specs.Derivations.{sceneOf}
-use Rattle.rules.specs.Rules.{inOrder, byDepth, rule13-14, rule15-16, rule17, rule18, rule19, rule20, judged}
+use Rattle.rules.specs.Rules.{inOrder, byDepth, rule13-14, rule15-16, rule17, rule18, rule19, judged}
 use Rattle.rules.specs.Words.{headWords, wordsOf}
 use Rattle.records.specs.Raw.{rawOf}
 use Rattle.views.specs.View.{TableOf, Judging, AllPlaced, recordWord}
 use Rattle.derived.specs.Told.{Resolved}
 use Rattle.sizing.specs.Drawn.{Drawn}
 use Rattle.judging.specs.declared.Rule.{Rule}
-use Rattle.judging.specs.declared.Rule.the-variants.{Placed, Derived, Itself, Deep, Sized}
+use Rattle.judging.specs.declared.Rule.the-variants.{Placed, Derived, Itself, Deep}
 use Rattle.judging.specs.declared.Judged.{Judged}
 use Rattle.judging.specs.declared.Judged.the-variants.{Good, Refused}
 
@@ -31,7 +31,6 @@ ruleBy Placed total head f r i = rule13-14 total head f i
 ruleBy Derived total head f r i = rule17 total head f i
 ruleBy Itself total head f r i = rule18 (sceneOf total head f) r i
 ruleBy Deep total head f r i = rule19 (sceneOf total head f) r i
-ruleBy (Sized d) total head f r i = rule20 (sceneOf total head f) d r i
 
 -- 18 to 20, and 15 to 20
 unfoldable pub picturesJudged : ℕ → List ℕ → File → Answer (Unit {0})
@@ -52,7 +51,6 @@ Ready Placed t rows head total idat f = Early t rows head total idat f
 Ready Derived t rows head total idat f = Early t rows head total idat f × AllPlaced total head f
 Ready Itself t rows head total idat f = Drawn t rows head total f
 Ready Deep t rows head total idat f = Drawn t rows head total f
-Ready (Sized d) t rows head total idat f = Drawn t rows head total f
 
 abbrev pub NoneDeeper : List ℕ → ℕ → Type 0
 NoneDeeper t w = (r : ℕ) → r < getD t 0 0 → r < 256 → recordWord t r 14 ≤ w

@@ -1,13 +1,17 @@
 // Judging: refusals 12 to 20 in the order of document 01, and the sizes into the table.
 ghost use mathlib.Core.Path.{_≡_};
 ghost use mathlib.Core.List.{List};
+ghost use mathlib.Core.Bool.{_&&_, not};
 ghost use Prim.Native.Nat.{ℕ, _<_};
 ghost use lib.ListN.{length, drop};
 ghost use Rattle.contents.specs.Iinf.{Item};
 ghost use Rattle.contents.specs.File.{File};
 ghost use Rattle.rules.specs.Joined.{itemAt};
 ghost use Rattle.rules.specs.Derivations.{sceneOf};
-ghost use Rattle.rules.specs.Rules.{inOrder, rule18, rule19, rule20, byDepth};
+ghost use Rattle.boxes.specs.Types.{image};
+ghost use Rattle.pictures.specs.Scene.{pictureAt, goodSizes};
+ghost use Rattle.rules.specs.Rules.{inOrder, rule18, rule19, byDepth};
+ghost use Rattle.records.specs.Rows.{Rowed};
 ghost use Rattle.views.specs.View.{AllPlaced};
 ghost use Rattle.views.specs.Told.{faultOf};
 ghost use Rattle.derived.specs.Told.{Resolved};
@@ -31,8 +35,6 @@ pub enum Rule {
     Derived,
     Itself,
     Deep,
-    // 20, for the pictures of one depth.
-    Sized(u32),
 }
 
 // 18 for the item in a row. No picture that is at most 16 deep is derived from itself.
@@ -62,20 +64,14 @@ fn deep_fault(table: &[u32], row: ItemRow) -> u32
     0
 }
 
-// 20 for the item in a row, if it is a picture of a depth.
-fn size_fault(head: &[u8], table: &[u32], rows: &[u32], depth: u32, row: ItemRow) -> u32
-    ensures { λ r. ⌜ ((total : ℕ) (f : File) → Drawn (now (table .entry)) (now (rows .entry)) (now (head .entry)) total f → row .0 < length (f .items) → r ≡ faultOf (rule20 (sceneOf total (now (head .entry)) f) depth (row .0) (itemAt f (row .0)))) ⌝ }
+// Whether 20 refuses the item in a row: it is a picture, and its sizes are wrong.
+fn is_misfit(head: &[u8], table: &[u32], rows: &[u32], row: ItemRow) -> bool
+    ensures { λ r. ⌜ ((total : ℕ) (f : File) → Drawn (now (table .entry)) (now (rows .entry)) (now (head .entry)) total f → row .0 < length (f .items) → r ≡ (image (itemAt f (row .0) .type) && not (goodSizes (sceneOf total (now (head .entry)) f) (pictureAt (sceneOf total (now (head .entry)) f) (row .0))))) ⌝ }
 {
-    if views::record_word(table, row, 14) != depth {
-        return 0;
-    }
     if !views::is_image(views::type_of(table, row)) {
-        return 0;
+        return false;
     }
-    if sizing::good_sizes(head, table, rows, row) {
-        return 0;
-    }
-    20
+    !sizing::good_sizes(head, table, rows, row)
 }
 
 // The number that a rule refuses the item in a row by, 0 where it does not.
@@ -95,7 +91,6 @@ fn fault_of(
         Rule::Derived => derived::derived_fault(head, table, rows, row),
         Rule::Itself => itself_fault(table, rows, row),
         Rule::Deep => deep_fault(table, row),
-        Rule::Sized(depth) => size_fault(head, table, rows, depth, row),
     }
 }
 
@@ -149,34 +144,38 @@ fn deepest_of(table: &[u32]) -> u32
     deepest
 }
 
-// 20, by rising depth as far as there is one.
-fn by_depth(
-    head: &[u8],
-    total: u64,
-    table: &[u32],
-    rows: &[u32],
-    idat: usize,
-    deepest: u32,
-) -> Judged
-    requires { ⌜ NoneDeeper (now table) deepest ⌝ }
-    ensures { λ r. ⌜ ((f : File) → Drawn (now (table .entry)) (now (rows .entry)) (now (head .entry)) total f → r ≡ toldJudged (byDepth (sceneOf total (now (head .entry)) f) (f .items) 17 0)) ⌝ }
+// 20, by rising depth: of the pictures that break it, the first one of the least depth. No table of a file is shorter or has more items, as above.
+fn judge_sizes(head: &[u8], table: &[u32], rows: &[u32]) -> Judged
+    ensures { λ r. ⌜ ((total : ℕ) (f : File) → Drawn (now (table .entry)) (now (rows .entry)) (now (head .entry)) total f → r ≡ toldJudged (byDepth (sceneOf total (now (head .entry)) f) (f .items) 17 0)) ⌝ }
 {
-    let mut depth: u32 = 0;
-    while depth < 17 {
-        if deepest < depth {
-            return Judged::Good;
-        }
-        let j = first_fault(head, total, table, rows, idat, Rule::Sized(depth));
-        match j {
-            Judged::Refused(f) => {
-                return Judged::Refused(f);
-            }
-            Judged::Good => {
-                depth += 1;
-            }
-        }
+    if table.len() < Table::WORDS {
+        return Judged::Good;
     }
-    Judged::Good
+    let n = views::item_count(table);
+    if 256 < n {
+        return Judged::Good;
+    }
+    // The depth and the row of the one to name; 17 while there is none.
+    let mut depth: u32 = 17;
+    let mut named: usize = 0;
+    let mut k: usize = 0;
+    while k < n {
+        let d = views::record_word(table, ItemRow(k), 14);
+        if d < depth {
+            if is_misfit(head, table, rows, ItemRow(k)) {
+                depth = d;
+                named = k;
+            }
+        }
+        k += 1;
+    }
+    if depth == 17 {
+        return Judged::Good;
+    }
+    Judged::Refused(Refusal {
+        number: 20,
+        place: views::id_of(table, ItemRow(named)).0 as u64,
+    })
 }
 
 // 18 for every item. Where all rest on pictures without inputs no item is asked.
@@ -198,7 +197,7 @@ fn judge_pictures(head: &[u8], total: u64, table: &[u32], rows: &[u32], idat: us
 {
     let deepest = deepest_of(table);
     if deepest <= 16 {
-        return by_depth(head, total, table, rows, idat, deepest);
+        return judge_sizes(head, table, rows);
     }
     let i = judge_itself(head, total, table, rows, idat);
     match i {
@@ -207,13 +206,13 @@ fn judge_pictures(head: &[u8], total: u64, table: &[u32], rows: &[u32], idat: us
             let d = first_fault(head, total, table, rows, idat, Rule::Deep);
             match d {
                 Judged::Refused(f) => Judged::Refused(f),
-                Judged::Good => by_depth(head, total, table, rows, idat, deepest),
+                Judged::Good => judge_sizes(head, table, rows),
             }
         }
     }
 }
 
-// 15 to 20, for a file that keeps 12 to 14. 15 and 16 are judged where sizes and depths are filled in, and depths are right only where 17 is kept: so 17 is asked first, on the table as it was read, and what it says waits.
+// 15 to 20, for a file that keeps 12 to 14. 15 and 16 are judged where sizes and depths are filled in, and depths are right only where 17 is kept: so 17 is asked first, on the table as it was read, and what it says waits. Two calls of `fill_sizes`, so that its loop stays a function of its own (items::read_items).
 fn judge_placed(head: &[u8], total: u64, table: &mut [u32], rows: &[u32], idat: usize) -> Judged
     requires { ⌜ ((f : File) × (x : List ℕ) × Read (now table) (now head) total idat f x) ⌝ }
     ensures { λ r. ⌜ ((f : File) (x : List ℕ) → Read (now (table .entry)) (now (head .entry)) total idat f x → Resolved (now (table .entry)) (now (rows .entry)) f → AllPlaced total (now (head .entry)) f → RestBy (now (head .entry)) total f x r (now (table .exit))) ⌝ }
@@ -222,19 +221,27 @@ fn judge_placed(head: &[u8], total: u64, table: &mut [u32], rows: &[u32], idat: 
     let d = first_fault(head, total, &*table, rows, idat, Rule::Derived);
     let n = views::item_count(&*table);
     let depths = depths::depths_of(&*table, rows, n);
-    let s = sizing::fill_sizes(head, table, &depths);
-    match s {
-        Filled::Refused(f) => Judged::Refused(f),
-        Filled::All => match d {
-            Judged::Refused(f) => Judged::Refused(f),
-            Judged::Good => judge_pictures(head, total, &*table, rows, idat),
-        },
+    match d {
+        Judged::Refused(f) => {
+            let s = sizing::fill_sizes(head, table, &depths);
+            match s {
+                Filled::Refused(g) => Judged::Refused(g),
+                Filled::All => Judged::Refused(f),
+            }
+        }
+        Judged::Good => {
+            let s = sizing::fill_sizes(head, table, &depths);
+            match s {
+                Filled::Refused(f) => Judged::Refused(f),
+                Filled::All => judge_pictures(head, total, &*table, rows, idat),
+            }
+        }
     }
 }
 
 // The table of a file that was read becomes that of the accepted file, or the first fault of 12 to 20 is given.
-pub fn judge(head: &[u8], total: u64, table: &mut [u32], idat: usize) -> Judged
-    requires { ⌜ ((f : File) × (x : List ℕ) × Read (now table) (now head) total idat f x) ⌝ }
+pub fn judge(head: &[u8], total: u64, table: &mut [u32], rows: &[u32], idat: usize) -> Judged
+    requires { ⌜ ((f : File) × (x : List ℕ) × Read (now table) (now head) total idat f x) × Rowed (now table) (now rows) ⌝ }
     ensures { λ r. ⌜ ((f : File) (x : List ℕ) → Read (now (table .entry)) (now (head .entry)) total idat f x → JudgedBy (now (head .entry)) total f x r (now (table .exit))) ⌝ }
     ensures { λ _. ⌜ drop 11280 (now (table .exit)) ≡ drop 11280 (now (table .entry)) ⌝ }
 {
@@ -244,11 +251,9 @@ pub fn judge(head: &[u8], total: u64, table: &mut [u32], idat: usize) -> Judged
             place: table::word(&*table, 5) as u64,
         });
     }
-    let mut rows = [0u32; 2048];
-    derived::resolve(&*table, &mut rows);
-    let p = first_fault(head, total, &*table, &rows, idat, Rule::Placed);
+    let p = first_fault(head, total, &*table, rows, idat, Rule::Placed);
     match p {
         Judged::Refused(f) => Judged::Refused(f),
-        Judged::Good => judge_placed(head, total, table, &rows, idat),
+        Judged::Good => judge_placed(head, total, table, rows, idat),
     }
 }

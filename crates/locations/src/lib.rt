@@ -153,11 +153,11 @@ pub enum RowRead {
     Refused(Refusal),
 }
 
-fn row_for(table: &[u32], n: usize, id: ItemId, hope: ItemRow, place: u64) -> RowRead
+fn row_for(table: &[u32], n: usize, id: ItemId, hope: ItemRow, slots: &[u32], place: u64) -> RowRead
     requires { ⌜ (n ≤ 256) × (11280 ≤ length (now table)) ⌝ }
     ensures { λ r. ⌜ RowAre (now (table .entry)) n (id .0) place r ⌝ }
 {
-    let f = records::row_of(table, n, id, hope);
+    let f = records::row_of(table, n, id, hope, slots);
     match f {
         FoundRow::At(row) => {
             if table[Table::item(row) + 11] == 1 {
@@ -233,6 +233,7 @@ fn read_entry(
     table: &[u32],
     n: usize,
     hope: ItemRow,
+    slots: &[u32],
     used: usize,
 ) -> EntryRead
     requires { ⌜ (at ≤ length (now s)) × Sized w × (used ≤ 512) × (n ≤ 256) × (11280 ≤ length (now table)) ⌝ }
@@ -242,7 +243,14 @@ fn read_entry(
     if s.len() - at < wide {
         return EntryRead::Refused(Refusal { number: 8, place });
     }
-    let r = row_for(table, n, ItemId(fields::be_id(s, at, wide)), hope, place);
+    let r = row_for(
+        table,
+        n,
+        ItemId(fields::be_id(s, at, wide)),
+        hope,
+        slots,
+        place,
+    );
     match r {
         RowRead::Refused(f) => EntryRead::Refused(f),
         RowRead::Is(row) => {
@@ -371,13 +379,14 @@ fn put_entry(
     table: &mut [u32],
     n: usize,
     hope: ItemRow,
+    slots: &[u32],
     used: usize,
     idat: u64,
 ) -> EntryPut
     requires { ⌜ (at ≤ length (now s)) × Sized w × (used ≤ 512) × (n ≤ 256) × (11280 ≤ length (now table)) ⌝ }
     ensures { λ r. ⌜ PutAre (now (table .entry)) (now (table .exit)) n w used place (now (s .entry)) at idat r ⌝ }
 {
-    let r = read_entry(s, at, w, place, &*table, n, hope, used);
+    let r = read_entry(s, at, w, place, &*table, n, hope, slots, used);
     match r {
         EntryRead::Refused(f) => EntryPut::Refused(f),
         EntryRead::Is {
@@ -401,6 +410,7 @@ fn put_entries(
     place: u64,
     table: &mut [u32],
     n: usize,
+    slots: &[u32],
     idat: u64,
 ) -> LocationsRead
     requires { ⌜ (from ≤ length (now s)) × Sized w × (n ≤ 256) × (11280 ≤ length (now table)) × Unplaced (now table) n ⌝ }
@@ -412,7 +422,7 @@ fn put_entries(
     let mut hope: usize = 0;
     let mut i: usize = 0;
     while i < count {
-        let t = put_entry(s, at, w, place, table, n, ItemRow(hope), used, idat);
+        let t = put_entry(s, at, w, place, table, n, ItemRow(hope), slots, used, idat);
         match t {
             EntryPut::Refused(r) => {
                 return LocationsRead::Refused(r);
@@ -433,7 +443,14 @@ fn put_entries(
 }
 
 // The entries of the `iloc` at a place into a table with n items, none of which has an entry yet; the content of `idat` begins at `idat`.
-pub fn read_locations(s: &[u8], place: u64, table: &mut [u32], n: usize, idat: u64) -> LocationsRead
+pub fn read_locations(
+    s: &[u8],
+    place: u64,
+    table: &mut [u32],
+    n: usize,
+    slots: &[u32],
+    idat: u64,
+) -> LocationsRead
     requires { ⌜ (11280 ≤ length (now table)) × (n ≤ 256) × Unplaced (now table) n ⌝ }
     ensures { λ r. ⌜ r ≡ toldLocations (whole (iloc-form (idsIn (now (table .entry)) n)) place (now (s .entry))) ⌝ }
     ensures { λ _. ⌜ LocationsLeft (now (s .entry)) place n idat (now (table .entry)) (now (table .exit)) ⌝ }
@@ -446,11 +463,11 @@ pub fn read_locations(s: &[u8], place: u64, table: &mut [u32], n: usize, idat: u
             match z {
                 Sizes::Refused(r) => LocationsRead::Refused(r),
                 Sizes::Is { widths, count } => {
-                    // Behind the count, which is as wide as an ID.
+                    // Behind the count, which is as wide as an ID. Two calls, so that the loop stays a function of its own (items::read_items).
                     if widths.id == 2 {
-                        return put_entries(s, 8, count, widths, place, table, n, idat);
+                        return put_entries(s, 8, count, widths, place, table, n, slots, idat);
                     }
-                    put_entries(s, 10, count, widths, place, table, n, idat)
+                    put_entries(s, 10, count, widths, place, table, n, slots, idat)
                 }
             }
         }

@@ -1,12 +1,11 @@
 -- The entries of an `ipma`, one at a time: what the loop over them uses. Assumes nothing.
 use Prim.Native.Nat.{ℕ, suc, _+_, _*_, _-_, _%_, _≤_, _<_}
-use native.Mathlib.Numerals.{add-one}
 use native.Mathlib.Omega.{arith}
 use mathlib.Core.Path.{_≡_, refl, sym, ap, _∙_, subst}
 use mathlib.Core.List.{List, [], _∷_, _++_, map-append}
 use mathlib.Core.Bool.{Bool, true, false}
 use mathlib.Core.Logic.{_⊎_, inl, inr}
-use lib.ListN.{length, getD, drop, replicate, set, length-map}
+use lib.ListN.{length, getD, drop, length-map}
 use lib.Seq.{sets}
 use lib.Dec.{leb, ltb, eqb}
 use borrow.Author.Tests.{ltb-true, ltb-false, le-leb, lt-leb}
@@ -35,7 +34,7 @@ use Rattle.records.proofs.MemberLaws.{member-other}
 use Rattle.records.proofs.SaidLaws.{namedIn}
 use Rattle.records.proofs.RawLaws.{raw-id, raw-named}
 use Rattle.contents.proofs.SumLaws.{associations-more}
-use Rattle.properties.specs.Steps.{KeptIds, wordsOf, spanWords, Above, NamedHere, NamedPutIs, toldNames, NamesLeft, hintsIn}
+use Rattle.properties.specs.Steps.{KeptIds, wordsOf, spanWords, Above, NamedHere, NamedPutIs, toldNames, NamesLeft}
 use Rattle.properties.specs.declared.NamedPut.{NamedPut}
 use Rattle.properties.specs.declared.NamedPut.the-variants as named
 use Rattle.properties.specs.declared.NamesRead.{NamesRead}
@@ -251,15 +250,3 @@ module _ (s : List ℕ) (from count most v w place n : ℕ) (t₀ : List ℕ) wh
                   ∙ ap (λ (j : ℕ). sets (sets t (5136 + used) (wordsOf (b .list))) (16 + 16 * row .0 + 3) (spanWords used j)) (sym c)
                   ∙ raw-more pl f z n ready (so .entries) t (so .told pl f z ready none is) used id (row .0) (b .list) (so .total) (omega (arith, b .fits)) (so .fresh id (b .rising)) (b .found .0) (b .found .1);
             }
-
--- hintsIn
-pub hints-none : (t : List ℕ) → replicate 256 0 ≡ hintsIn t 0
-unfolding hintsIn
-hints-none t = refl
-
-pub hints-more : (t h : List ℕ) (k x : ℕ) → h ≡ hintsIn t k → x ≡ idAt t k → set h (x % 256) k ≡ hintsIn t (k + 1)
-unfolding hintsIn
-hints-more t h k x e i = rw (add-one, e, i)
-
-pub hints-all : (t h : List ℕ) (k n : ℕ) → h ≡ hintsIn t k → k ≡ n → h ≡ hintsIn t n
-hints-all t h k n e i = e ∙ ap (hintsIn t) i

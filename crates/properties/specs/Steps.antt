@@ -6,12 +6,11 @@
 --   PropertiesLeft, NamesLeft    the table afterwards, where a file is read into it
 --   AssociatedIs, ListedIs, NamedPutIs    the answers of the functions that read one list, one list with its count and one entry, with the table afterwards
 --   list-form                    the count of an entry and its associations
---   hintsIn t n                  for each of 256 remainders the last of the first n rows whose ID leaves it
 --   pairShown                    the contents of an `ipco` and an `ipma`
-use Prim.Native.Nat.{ℕ, zero, suc, _+_, _*_, _%_, _<_, _≤_}
+use Prim.Native.Nat.{ℕ, _+_, _*_, _<_, _≤_}
 use mathlib.Core.Path.{_≡_}
 use mathlib.Core.List.{List, [], _∷_, _++_, map}
-use lib.ListN.{length, drop, replicate, set}
+use lib.ListN.{length, drop}
 use lib.Seq.{sets}
 use lib.Dec.{leb, ltb, eqb}
 use Rattle.fields.specs.Choice.{pick}
@@ -145,10 +144,6 @@ pub record NamedHere (m : Answer (Got Named)) (s : List ℕ) (n above used : ℕ
 abbrev pub NamedPutIs : Answer (Got Named) → List ℕ → ℕ → ℕ → ℕ → List ℕ → List ℕ → NamedPut → Type 0
 NamedPutIs m s n above used t u (named.Is end count id row) = NamedHere m s n above used t u end count id (row .0)
 NamedPutIs m s n above used t u (named.Refused r) = (m ≡ refuse (r .number) (r .place)) × KeptIds t u
-
-unfoldable pub hintsIn : List ℕ → ℕ → List ℕ
-hintsIn t zero = replicate 256 0
-hintsIn t (suc n) = set (hintsIn t n) (idAt t n % 256) n
 
 -- the content p of an `ipco` at `base`, whose header is h bytes long, and the content q of the `ipma` behind it, at `base` + e
 unfoldable pub pairShown : List ℕ → ℕ → ℕ → ℕ → List ℕ → List ℕ → Answer Shown

@@ -17,7 +17,7 @@ ghost use Rattle.contents.specs.Ipma.{Named, associationsIn, markOf, associatio
 ghost use Rattle.contents.specs.Iprp.{anyBox, shown};
 ghost use Rattle.records.specs.Rows.{idsIn};
 ghost use Rattle.properties.specs.Told.{toldShown, ShownLeft};
-ghost use Rattle.properties.specs.Steps.{toldChecked, nextProperty, AddedIs, toldProperties, PropertiesLeft, AssociatedIs, spanWords, list-form, ListedIs, Above, NamedPutIs, toldNames, NamesLeft, hintsIn, levelOf, toldLevel, pairShown, PairLeft};
+ghost use Rattle.properties.specs.Steps.{toldChecked, nextProperty, AddedIs, toldProperties, PropertiesLeft, AssociatedIs, spanWords, list-form, ListedIs, Above, NamedPutIs, toldNames, NamesLeft, levelOf, toldLevel, pairShown, PairLeft};
 use boxes::Child;
 use boxes::Refusal;
 use contents::FullRead;
@@ -314,22 +314,7 @@ pub enum NamedPut {
     Refused(Refusal),
 }
 
-// For each of 256 remainders the last row whose ID leaves it, 0 where none does. The entries of an `ipma` rise, the rows need not: this is where to look first.
-fn hints_of(table: &[u32], n: usize) -> [u32; 256]
-    requires { ⌜ (n ≤ 256) × (11280 ≤ length (now table)) ⌝ }
-    ensures { λ r. ⌜ r ≡ hintsIn (now (table .entry)) n ⌝ }
-{
-    let mut hints = [0u32; 256];
-    let mut k: usize = 0;
-    while k < n {
-        let id = table[Table::item(ItemRow(k))];
-        hints[(id % 256) as usize] = k as u32;
-        k += 1;
-    }
-    hints
-}
-
-// One entry, into the table. The IDs before it are below `above`; `hints` may say where its row is.
+// One entry, into the table. The IDs before it are below `above`. Its row is looked for at the one hoped for, then by slots.
 fn put_named(
     s: &[u8],
     at: usize,
@@ -338,7 +323,8 @@ fn put_named(
     table: &mut [u32],
     n: usize,
     above: u64,
-    hints: &[u32],
+    hope: ItemRow,
+    slots: &[u32],
     used: usize,
 ) -> NamedPut
     requires { ⌜ (at ≤ length (now s)) × ((f .word ≡ 1) ⊎ (f .word ≡ 2)) × (n ≤ 256) × (used ≤ 2048) × (11280 ≤ length (now table)) ⌝ }
@@ -353,8 +339,7 @@ fn put_named(
     if (id as u64) < above {
         return NamedPut::Refused(Refusal { number: 10, place });
     }
-    let hope = ItemRow(table::word(hints, (id % 256) as usize) as usize);
-    let found = records::row_of(&*table, n, ItemId(id), hope);
+    let found = records::row_of(&*table, n, ItemId(id), hope, slots);
     match found {
         FoundRow::Nothing => NamedPut::Refused(Refusal { number: 11, place }),
         FoundRow::At(row) => {
@@ -381,26 +366,29 @@ fn put_names(
     place: u64,
     table: &mut [u32],
     n: usize,
+    slots: &[u32],
 ) -> NamesRead
     requires { ⌜ (from ≤ length (now s)) × ((f .word ≡ 1) ⊎ (f .word ≡ 2)) × (n ≤ 256) × (11280 ≤ length (now table)) ⌝ }
     ensures { λ r. ⌜ r ≡ toldNames (whole (many (named-form (idsIn (now (table .entry)) n) (f .most) (f .version) (f .word)) count []) place (drop from (now (s .entry)))) ⌝ }
     ensures { λ _. ⌜ NamesLeft (whole (many (named-form (idsIn (now (table .entry)) n) (f .most) (f .version) (f .word)) count []) place (drop from (now (s .entry)))) n (now (table .entry)) (now (table .exit)) ⌝ }
 {
-    let hints = hints_of(&*table, n);
     let mut at = from;
     let mut used: usize = 0;
     let mut above: u64 = 0;
+    let mut hope: usize = 0;
     let mut i: usize = 0;
     while i < count {
-        let t = put_named(s, at, f, place, table, n, above, &hints, used);
+        let t = put_named(s, at, f, place, table, n, above, ItemRow(hope), slots, used);
         match t {
             NamedPut::Refused(r) => {
                 return NamesRead::Refused(r);
             }
-            NamedPut::Is { end, k, id, row: _ } => {
+            NamedPut::Is { end, k, id, row } => {
                 at = end;
                 used += k;
                 above = (id as u64) + 1;
+                let r = row.0;
+                hope = r + 1;
                 i += 1;
             }
         }
@@ -411,8 +399,15 @@ fn put_names(
     NamesRead::Associations(used)
 }
 
-// The associations of the `ipma` at a place into a table with n items and `most` properties.
-fn read_names(s: &[u8], place: u64, table: &mut [u32], n: usize, most: u32) -> NamesRead
+// The associations of the `ipma` at a place into a table with n items and `most` properties. Two calls of `put_names`, so that its loop stays a function of its own (items::read_items).
+fn read_names(
+    s: &[u8],
+    place: u64,
+    table: &mut [u32],
+    n: usize,
+    slots: &[u32],
+    most: u32,
+) -> NamesRead
     requires { ⌜ (n ≤ 256) × (11280 ≤ length (now table)) ⌝ }
     ensures { λ r. ⌜ r ≡ toldNames (whole (ipma-form (idsIn (now (table .entry)) n) most) place (now (s .entry))) ⌝ }
     ensures { λ _. ⌜ NamesLeft (whole (ipma-form (idsIn (now (table .entry)) n) most) place (now (s .entry))) n (now (table .entry)) (now (table .exit)) ⌝ }
@@ -434,14 +429,14 @@ fn read_names(s: &[u8], place: u64, table: &mut [u32], n: usize, most: u32) -> N
                     word: 2,
                     most,
                 };
-                return put_names(s, 8, count as usize, f, place, table, n);
+                return put_names(s, 8, count as usize, f, place, table, n, slots);
             }
             let f = Written {
                 version,
                 word: 1,
                 most,
             };
-            put_names(s, 8, count as usize, f, place, table, n)
+            put_names(s, 8, count as usize, f, place, table, n, slots)
         }
     }
 }
@@ -551,7 +546,14 @@ pub enum ShownRead {
 }
 
 // The `iprp` at a place, whose content s begins at `base`, into a table with n items.
-pub fn read_shown(s: &[u8], place: u64, base: u64, table: &mut [u32], n: usize) -> ShownRead
+pub fn read_shown(
+    s: &[u8],
+    place: u64,
+    base: u64,
+    table: &mut [u32],
+    n: usize,
+    slots: &[u32],
+) -> ShownRead
     requires { ⌜ (11280 ≤ length (now table)) × (n ≤ 256) × (base + length (now s) ≤ 65536) ⌝ }
     ensures { λ r. ⌜ r ≡ toldShown (shown (idsIn (now (table .entry)) n) place base (now (s .entry))) ⌝ }
     ensures { λ _. ⌜ ShownLeft (now (s .entry)) place base n (now (table .entry)) (now (table .exit)) ⌝ }
@@ -567,7 +569,7 @@ pub fn read_shown(s: &[u8], place: u64, base: u64, table: &mut [u32], n: usize) 
                         let e0 = l.end0;
                         let b1 = l.body1;
                         let e1 = l.end1;
-                        return read_pair(s, base, b0, e0, b1, e1, table, n);
+                        return read_pair(s, base, b0, e0, b1, e1, table, n, slots);
                     }
                 }
             }
@@ -586,6 +588,7 @@ fn read_pair(
     e1: usize,
     table: &mut [u32],
     n: usize,
+    slots: &[u32],
 ) -> ShownRead
     requires { ⌜ (b0 ≤ e0) × (e0 ≤ length (now s)) × (b1 ≤ e1) × (e1 ≤ length (now s)) × (11280 ≤ length (now table)) × (n ≤ 256) × (base + length (now s) ≤ 65536) ⌝ }
     ensures { λ r. ⌜ r ≡ toldShown (pairShown (idsIn (now (table .entry)) n) base b0 e0 (take (e0 - b0) (drop b0 (now (s .entry)))) (take (e1 - b1) (drop b1 (now (s .entry))))) ⌝ }
@@ -595,7 +598,7 @@ fn read_pair(
     match p {
         PropertiesRead::Refused(f) => ShownRead::Refused(f),
         PropertiesRead::Properties(m) => {
-            let q = read_names(&s[b1..e1], base + (e0 as u64), table, n, m as u32);
+            let q = read_names(&s[b1..e1], base + (e0 as u64), table, n, slots, m as u32);
             match q {
                 NamesRead::Refused(f) => ShownRead::Refused(f),
                 NamesRead::Associations(k) => ShownRead::Shown {

@@ -9,3 +9,4 @@ pub mod MetaLaws
 pub mod LastLaws
 pub mod NextLaws
 pub mod TopStage
+pub mod RowedLaws

@@ -13,6 +13,8 @@ ghost use Rattle.contents.specs.File.{File, contentsOf, fileOf};
 ghost use Rattle.rules.specs.Places.{placesAt};
 ghost use Rattle.records.specs.Raw.{unread, rawOf};
 ghost use Rattle.records.specs.Stage.{Kept, withItems, withLocations, withProperties, withNames};
+ghost use Rattle.records.specs.Rows.{Rowed};
+ghost use Rattle.reading.specs.declared.FileRead.the-variants.{Is};
 ghost use Rattle.reading.specs.Parts.{kids, Standing, Before, LastBefore, After, ReadLeft, shownOf, fromHandler, fromItems, fromLocations, fromShown, fromReferences, toldSpot, spotsIn, Missing, readAnswer, readWords};
 use boxes::FoundMeta;
 use boxes::Refusal;
@@ -84,13 +86,16 @@ fn read_last(
     at: usize,
     spots: [Spot; 7],
     table: &mut [u32],
+    rows: &mut [u32],
     total: u64,
     primary: ItemId,
     c: Counts,
+    slots: &[u32],
 ) -> FileRead
-    requires { ⌜ (Standing (now s) spots) × (at + length (now s) ≤ 65536) × (11280 ≤ length (now table)) × ((f : File) × (x : List ℕ) × LastBefore (now s) at c f x (now table)) ⌝ }
+    requires { ⌜ (Standing (now s) spots) × (at + length (now s) ≤ 65536) × (11280 ≤ length (now table)) × (2048 ≤ length (now rows)) × ((f : File) × (x : List ℕ) × LastBefore (now s) at c f x (now table)) ⌝ }
     ensures { λ r. ⌜ ((f : File) (x : List ℕ) → LastBefore (now (s .entry)) at c f x (now (table .entry)) → After (now (s .entry)) at total (fromReferences at (kids (now (s .entry))) (primary .0) (f .items) (f .locations) (shownOf f)) r x (now (table .exit))) ⌝ }
     ensures { λ _. ⌜ Kept (now (table .entry)) (now (table .exit)) ⌝ }
+    ensures { λ r. ⌜ ((i e : ℕ) → r ≡ Is i e → Rowed (now (table .exit)) (now (rows .exit))) ⌝ }
 {
     let r = spots[5];
     let start = r.start;
@@ -101,13 +106,9 @@ fn read_last(
         return found_idat(spots, at);
     }
     let n = c.items;
-    let t = references::read_references(
-        &s[body..end],
-        (at + start) as u64,
-        (at + body) as u64,
-        table,
-        n,
-    );
+    let place = (at + start) as u64;
+    let base = (at + body) as u64;
+    let t = references::read_references(&s[body..end], place, base, table, rows, n, slots);
     match t {
         ReferencesRead::Refused(f) => FileRead::Refused(f),
         ReferencesRead::Targets(targets) => {
@@ -123,14 +124,17 @@ fn read_iprp(
     at: usize,
     spots: [Spot; 7],
     table: &mut [u32],
+    rows: &mut [u32],
     total: u64,
     primary: ItemId,
     n: usize,
+    slots: &[u32],
     extents: usize,
 ) -> FileRead
-    requires { ⌜ (Standing (now s) spots) × (at + length (now s) ≤ 65536) × (11280 ≤ length (now table)) × ((is : List Item) × (ls : List Location) × (x : List ℕ) × Before (now s) at n (withLocations (withItems is) ls) x (now table) × (extentsIn ls ≡ extents)) ⌝ }
+    requires { ⌜ (Standing (now s) spots) × (at + length (now s) ≤ 65536) × (11280 ≤ length (now table)) × (2048 ≤ length (now rows)) × ((is : List Item) × (ls : List Location) × (x : List ℕ) × Before (now s) at n (withLocations (withItems is) ls) x (now table) × (extentsIn ls ≡ extents)) ⌝ }
     ensures { λ r. ⌜ ((is : List Item) (ls : List Location) (x : List ℕ) → Before (now (s .entry)) at n (withLocations (withItems is) ls) x (now (table .entry)) → extentsIn ls ≡ extents → After (now (s .entry)) at total (fromShown at (kids (now (s .entry))) (primary .0) is ls) r x (now (table .exit))) ⌝ }
     ensures { λ _. ⌜ Kept (now (table .entry)) (now (table .exit)) ⌝ }
+    ensures { λ r. ⌜ ((i e : ℕ) → r ≡ Is i e → Rowed (now (table .exit)) (now (rows .exit))) ⌝ }
 {
     let p = spots[4];
     let start = p.start;
@@ -138,7 +142,7 @@ fn read_iprp(
     let end = p.end;
     let place = (at + start) as u64;
     let base = (at + body) as u64;
-    let t = properties::read_shown(&s[body..end], place, base, table, n);
+    let t = properties::read_shown(&s[body..end], place, base, table, n, slots);
     match t {
         ShownRead::Refused(f) => FileRead::Refused(f),
         ShownRead::Shown {
@@ -152,7 +156,7 @@ fn read_iprp(
                 targets: 0,
                 extents,
             };
-            read_last(s, at, spots, table, total, primary, c)
+            read_last(s, at, spots, table, rows, total, primary, c, slots)
         }
     }
 }
@@ -176,23 +180,37 @@ fn read_iloc(
     at: usize,
     spots: [Spot; 7],
     table: &mut [u32],
+    rows: &mut [u32],
     total: u64,
     primary: ItemId,
     n: usize,
+    slots: &[u32],
 ) -> FileRead
-    requires { ⌜ (Standing (now s) spots) × (at + length (now s) ≤ 65536) × (11280 ≤ length (now table)) × ((is : List Item) × (x : List ℕ) × Before (now s) at n (withItems is) x (now table)) ⌝ }
+    requires { ⌜ (Standing (now s) spots) × (at + length (now s) ≤ 65536) × (11280 ≤ length (now table)) × (2048 ≤ length (now rows)) × ((is : List Item) × (x : List ℕ) × Before (now s) at n (withItems is) x (now table)) ⌝ }
     ensures { λ r. ⌜ ((is : List Item) (x : List ℕ) → Before (now (s .entry)) at n (withItems is) x (now (table .entry)) → After (now (s .entry)) at total (fromLocations at (kids (now (s .entry))) (primary .0) is) r x (now (table .exit))) ⌝ }
     ensures { λ _. ⌜ Kept (now (table .entry)) (now (table .exit)) ⌝ }
+    ensures { λ r. ⌜ ((i e : ℕ) → r ≡ Is i e → Rowed (now (table .exit)) (now (rows .exit))) ⌝ }
 {
     let l = spots[3];
     let start = l.start;
     let body = l.body;
     let end = l.end;
     let idat = idat_at(spots, at);
-    let t = locations::read_locations(&s[body..end], (at + start) as u64, table, n, idat);
+    let t = locations::read_locations(&s[body..end], (at + start) as u64, table, n, slots, idat);
     match t {
         LocationsRead::Refused(f) => FileRead::Refused(f),
-        LocationsRead::Done(extents) => read_iprp(s, at, spots, table, total, primary, n, extents),
+        LocationsRead::Done(extents) => read_iprp(
+            s,
+            at,
+            spots,
+            table,
+            rows,
+            total,
+            primary,
+            n,
+            slots,
+            extents,
+        ),
     }
 }
 
@@ -202,34 +220,47 @@ fn read_iinf(
     at: usize,
     spots: [Spot; 7],
     table: &mut [u32],
+    rows: &mut [u32],
     total: u64,
     primary: ItemId,
 ) -> FileRead
-    requires { ⌜ (Standing (now s) spots) × (at + length (now s) ≤ 65536) × (11280 ≤ length (now table)) × ((x : List ℕ) × (now table ≡ replicate 11280 0 ++ x)) ⌝ }
+    requires { ⌜ (Standing (now s) spots) × (at + length (now s) ≤ 65536) × (11280 ≤ length (now table)) × (2048 ≤ length (now rows)) × ((x : List ℕ) × (now table ≡ replicate 11280 0 ++ x)) ⌝ }
     ensures { λ r. ⌜ ((x : List ℕ) → (now (table .entry)) ≡ replicate 11280 0 ++ x → After (now (s .entry)) at total (fromItems at (kids (now (s .entry))) (primary .0)) r x (now (table .exit))) ⌝ }
     ensures { λ _. ⌜ Kept (now (table .entry)) (now (table .exit)) ⌝ }
+    ensures { λ r. ⌜ ((i e : ℕ) → r ≡ Is i e → Rowed (now (table .exit)) (now (rows .exit))) ⌝ }
 {
     let i = spots[2];
     let start = i.start;
     let body = i.body;
     let end = i.end;
+    // Where rows are looked for by their IDs from here on.
+    let mut slots = [0u32; 768];
     let t = items::read_items(
         &s[body..end],
         (at + start) as u64,
         (at + body) as u64,
         table,
+        &mut slots,
     );
     match t {
         ItemsRead::Refused(f) => FileRead::Refused(f),
-        ItemsRead::Items(n) => read_iloc(s, at, spots, table, total, primary, n),
+        ItemsRead::Items(n) => read_iloc(s, at, spots, table, rows, total, primary, n, &slots),
     }
 }
 
 // `hdlr` and `pitm`, then the rest.
-fn read_contents(s: &[u8], at: usize, spots: [Spot; 7], table: &mut [u32], total: u64) -> FileRead
-    requires { ⌜ (Standing (now s) spots) × (at + length (now s) ≤ 65536) × (11280 ≤ length (now table)) × ((x : List ℕ) × (now table ≡ replicate 11280 0 ++ x)) ⌝ }
+fn read_contents(
+    s: &[u8],
+    at: usize,
+    spots: [Spot; 7],
+    table: &mut [u32],
+    rows: &mut [u32],
+    total: u64,
+) -> FileRead
+    requires { ⌜ (Standing (now s) spots) × (at + length (now s) ≤ 65536) × (11280 ≤ length (now table)) × (2048 ≤ length (now rows)) × ((x : List ℕ) × (now table ≡ replicate 11280 0 ++ x)) ⌝ }
     ensures { λ r. ⌜ ((x : List ℕ) → (now (table .entry)) ≡ replicate 11280 0 ++ x → After (now (s .entry)) at total (fromHandler at (kids (now (s .entry)))) r x (now (table .exit))) ⌝ }
     ensures { λ _. ⌜ Kept (now (table .entry)) (now (table .exit)) ⌝ }
+    ensures { λ r. ⌜ ((i e : ℕ) → r ≡ Is i e → Rowed (now (table .exit)) (now (rows .exit))) ⌝ }
 {
     let h = spots[0];
     let hs = h.start;
@@ -246,7 +277,7 @@ fn read_contents(s: &[u8], at: usize, spots: [Spot; 7], table: &mut [u32], total
             let q = contents::read_pitm(&s[pb..pe], (at + ps) as u64);
             match q {
                 PitmRead::Refused(f) => FileRead::Refused(f),
-                PitmRead::Primary(id) => read_iinf(s, at, spots, table, total, id),
+                PitmRead::Primary(id) => read_iinf(s, at, spots, table, rows, total, id),
             }
         }
     }
@@ -280,10 +311,18 @@ fn is_missing(spots: [Spot; 7]) -> bool
 }
 
 // The children of the `meta` at a place, the first at `at`.
-fn read_children(s: &[u8], place: usize, at: usize, table: &mut [u32], total: u64) -> FileRead
-    requires { ⌜ (at + length (now s) ≤ 65536) × (11280 ≤ length (now table)) × ((x : List ℕ) × (now table ≡ replicate 11280 0 ++ x)) ⌝ }
+fn read_children(
+    s: &[u8],
+    place: usize,
+    at: usize,
+    table: &mut [u32],
+    rows: &mut [u32],
+    total: u64,
+) -> FileRead
+    requires { ⌜ (at + length (now s) ≤ 65536) × (11280 ≤ length (now table)) × (2048 ≤ length (now rows)) × ((x : List ℕ) × (now table ≡ replicate 11280 0 ++ x)) ⌝ }
     ensures { λ r. ⌜ ((x : List ℕ) → (now (table .entry)) ≡ replicate 11280 0 ++ x → After (now (s .entry)) at total (contentsOf place at (now (s .entry))) r x (now (table .exit))) ⌝ }
     ensures { λ _. ⌜ Kept (now (table .entry)) (now (table .exit)) ⌝ }
+    ensures { λ r. ⌜ ((i e : ℕ) → r ≡ Is i e → Rowed (now (table .exit)) (now (rows .exit))) ⌝ }
 {
     let f = boxes::walk_children(s, place, at);
     let a = f.answer;
@@ -297,16 +336,24 @@ fn read_children(s: &[u8], place: usize, at: usize, table: &mut [u32], total: u6
                     place: place as u64,
                 });
             }
-            read_contents(s, at, spots, table, total)
+            read_contents(s, at, spots, table, rows, total)
         }
     }
 }
 
 // The content s of the `meta` at a place, beginning at `at`.
-fn read_meta(s: &[u8], place: usize, at: usize, table: &mut [u32], total: u64) -> FileRead
-    requires { ⌜ (at + length (now s) ≤ 65536) × (11280 ≤ length (now table)) × ((x : List ℕ) × (now table ≡ replicate 11280 0 ++ x)) ⌝ }
+fn read_meta(
+    s: &[u8],
+    place: usize,
+    at: usize,
+    table: &mut [u32],
+    rows: &mut [u32],
+    total: u64,
+) -> FileRead
+    requires { ⌜ (at + length (now s) ≤ 65536) × (11280 ≤ length (now table)) × (2048 ≤ length (now rows)) × ((x : List ℕ) × (now table ≡ replicate 11280 0 ++ x)) ⌝ }
     ensures { λ r. ⌜ ((x : List ℕ) → (now (table .entry)) ≡ replicate 11280 0 ++ x → After (drop 4 (now (s .entry))) (at + 4) total (fileOf place at (now (s .entry))) r x (now (table .exit))) ⌝ }
     ensures { λ _. ⌜ Kept (now (table .entry)) (now (table .exit)) ⌝ }
+    ensures { λ r. ⌜ ((i e : ℕ) → r ≡ Is i e → Rowed (now (table .exit)) (now (rows .exit))) ⌝ }
 {
     let v = contents::read_full(s, 0, 0, place as u64);
     match v {
@@ -314,15 +361,16 @@ fn read_meta(s: &[u8], place: usize, at: usize, table: &mut [u32], total: u64) -
         FullRead::Is {
             version: _,
             flags: _,
-        } => read_children(&s[4..], place, at + 4, table, total),
+        } => read_children(&s[4..], place, at + 4, table, rows, total),
     }
 }
 
 // The file into a table that is all 0.
-fn read_head(head: &[u8], total: u64, table: &mut [u32]) -> FileRead
-    requires { ⌜ (length (now head) ≤ 65536) × (length (now head) ≤ total) × (11280 ≤ length (now table)) × ((x : List ℕ) × (now table ≡ replicate 11280 0 ++ x)) ⌝ }
+fn read_head(head: &[u8], total: u64, table: &mut [u32], rows: &mut [u32]) -> FileRead
+    requires { ⌜ (length (now head) ≤ 65536) × (length (now head) ≤ total) × (11280 ≤ length (now table)) × (2048 ≤ length (now rows)) × ((x : List ℕ) × (now table ≡ replicate 11280 0 ++ x)) ⌝ }
     ensures { λ r. ⌜ ((x : List ℕ) → (now (table .entry)) ≡ replicate 11280 0 ++ x → ReadLeft total (now (head .entry)) r x (now (table .exit))) ⌝ }
     ensures { λ _. ⌜ Kept (now (table .entry)) (now (table .exit)) ⌝ }
+    ensures { λ r. ⌜ ((i e : ℕ) → r ≡ Is i e → Rowed (now (table .exit)) (now (rows .exit))) ⌝ }
 {
     let m = boxes::find_meta(head, total);
     match m {
@@ -332,15 +380,18 @@ fn read_head(head: &[u8], total: u64, table: &mut [u32]) -> FileRead
             start,
             body,
             table,
+            rows,
             total,
         ),
     }
 }
 
-// The whole reading. Refusal 1 writes nothing, the others leave the first 11,280 words 0.
-pub fn read_file(head: &[u8], total: u64, table: &mut [u32]) -> FileRead
+// The whole reading. Refusal 1 writes nothing, the others leave the first 11,280 words 0. Where the file is read, `rows` has for each target the row that it names; elsewhere nothing is said of it.
+pub fn read_file(head: &[u8], total: u64, table: &mut [u32], rows: &mut [u32]) -> FileRead
+    requires { ⌜ 2048 ≤ length (now rows) ⌝ }
     ensures { λ r. ⌜ r ≡ readAnswer (length (now (table .entry))) total (now (head .entry)) ⌝ }
     ensures { λ _. ⌜ now (table .exit) ≡ readWords total (now (head .entry)) (now (table .entry)) ⌝ }
+    ensures { λ r. ⌜ ((i e : ℕ) → r ≡ Is i e → Rowed (now (table .exit)) (now (rows .exit))) ⌝ }
 {
     if table.len() < Table::WORDS {
         return FileRead::Refused(Refusal {
@@ -361,7 +412,7 @@ pub fn read_file(head: &[u8], total: u64, table: &mut [u32]) -> FileRead
             place: 0,
         });
     }
-    let r = read_head(head, total, table);
+    let r = read_head(head, total, table, rows);
     match r {
         FileRead::Refused(f) => {
             table::clear(table);

@@ -24,7 +24,8 @@ fn sum_of(table: &[u32]) -> u64
 }
 
 fn print_answer(head: &[u8], total: u64, table: &mut [u32]) {
-    let r = reading::read_file(head, total, table);
+    let mut rows = [0u32; 2048];
+    let r = reading::read_file(head, total, table, &mut rows);
     match r {
         FileRead::Is {
             idat: _,

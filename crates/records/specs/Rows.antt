@@ -1,8 +1,10 @@
 -- Rows: an item found by its ID among the first n records of a table.
 --   idAt t r           the ID in row r;   idsIn t n    those of the first n rows
 --   Distinct ids       no ID stands twice
---   FoundIs t n id     what a lookup says, whatever order it searches in;   FoundBetween t a e id    the same among the rows from a to before e
-use Prim.Native.Nat.{ℕ, zero, suc, _+_, _*_, _<_, _≤_}
+--   slotOf id          the slot that an ID falls into
+--   RowedTo n k t v    v has for each of the first k targets of the table t the row, among the first n, that it names;   Rowed t v    the same for all of a table that was read
+--   FoundIs t n id     what a lookup says, whatever order it searches in
+use Prim.Native.Nat.{ℕ, zero, suc, _+_, _*_, _/_, _%_, _<_, _≤_}
 use mathlib.Core.Path.{_≡_}
 use mathlib.Core.List.{List, [], _∷_, _++_}
 use mathlib.Core.Bool.{false}
@@ -22,10 +24,15 @@ abbrev pub Distinct : List ℕ → Type 0
 Distinct [] = Unit {0}
 Distinct (x ∷ xs) = (member x xs ≡ false) × Distinct xs
 
+abbrev pub slotOf : ℕ → ℕ
+slotOf id = (id + id / 256 + id / 65536) % 512
+
+abbrev pub RowedTo : ℕ → ℕ → List ℕ → List ℕ → Type 0
+RowedTo n k t v = (j : ℕ) → j < k → (getD v j 0 < n) × (idAt t (getD v j 0) ≡ getD t (7184 + j) 0)
+
+abbrev pub Rowed : List ℕ → List ℕ → Type 0
+Rowed t v = RowedTo (getD t 0 0) (getD t 3 0) t v
+
 abbrev pub FoundIs : List ℕ → ℕ → ℕ → FoundRow → Type 0
 FoundIs t n id (At r) = (r .0 < n) × (idAt t (r .0) ≡ id)
 FoundIs t n id Nothing = (k : ℕ) → k < n → idAt t k ≡ id → ⊥
-
-abbrev pub FoundBetween : List ℕ → ℕ → ℕ → ℕ → FoundRow → Type 0
-FoundBetween t a e id (At r) = (a ≤ r .0) × (r .0 < e) × (idAt t (r .0) ≡ id)
-FoundBetween t a e id Nothing = (k : ℕ) → a ≤ k → k < e → idAt t k ≡ id → ⊥

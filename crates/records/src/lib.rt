@@ -1,10 +1,10 @@
-// Item records while a file is read: an item found by its ID.
+// Item records while a file is read: an item found by its ID, and the slots that say where to look.
 ghost use mathlib.Core.Path.{_≡_};
 ghost use mathlib.Core.Bool.{true};
 ghost use mathlib.Core.Logic.{_⊎_};
 ghost use Prim.Native.Nat.{_+_, _≤_, _<_};
 ghost use lib.ListN.{length};
-ghost use Rattle.records.specs.Rows.{idAt, FoundIs, FoundBetween};
+ghost use Rattle.records.specs.Rows.{idAt, slotOf, FoundIs};
 ghost use Rattle.records.specs.declared.FoundRow.the-variants.{At};
 use table::ItemId;
 use table::ItemRow;
@@ -15,8 +15,8 @@ pub enum FoundRow {
     Nothing,
 }
 
-// The row among the first n of an ID. Files name items in much the same order again and again, and number them one after the other: the row that the caller hopes for is looked at first, then the one that the ID points to. Only then are rows searched.
-pub fn row_of(table: &[u32], n: usize, id: ItemId, hope: ItemRow) -> FoundRow
+// The row among the first n of an ID. Files name items in much the same order again and again, and number them one after the other: the row that the caller hopes for is looked at first, then the one that the ID points to, then the one in its slot. Only then are rows searched.
+pub fn row_of(table: &[u32], n: usize, id: ItemId, hope: ItemRow, slots: &[u32]) -> FoundRow
     requires { ⌜ (n ≤ 256) × (11280 ≤ length (now table)) ⌝ }
     ensures { λ r. ⌜ FoundIs (now (table .entry)) n (id .0) r ⌝ }
 {
@@ -27,7 +27,32 @@ pub fn row_of(table: &[u32], n: usize, id: ItemId, hope: ItemRow) -> FoundRow
     if is_in_row(table, n, id, guess) {
         return FoundRow::At(guess);
     }
-    row_round(table, n, id, hope)
+    row_in_slot(table, n, id, slots)
+}
+
+// The slot that an ID falls into. Of 256 IDs that lie one after the other no two fall into the same, of 16-bit ones that lie apart by a power of two no three.
+pub fn slot_of(id: ItemId) -> usize
+    ensures { λ r. ⌜ r ≡ slotOf (id .0) ⌝ }
+{
+    let x = id.0 as usize;
+    (x + x / 256 + x / 65536) % 512
+}
+
+// The row among the first n of an ID by its slot. Words 0 to 511 of `slots` have, slot by slot, 1 more than the last row in it, words 512 on, row by row, 1 more than the row before it in the same slot; 0 where there is none. Nothing is promised of slots: each row is looked at, rows that do not fall end the way, and where none is the item's, all are searched.
+pub fn row_in_slot(table: &[u32], n: usize, id: ItemId, slots: &[u32]) -> FoundRow
+    requires { ⌜ (n ≤ 256) × (11280 ≤ length (now table)) ⌝ }
+    ensures { λ r. ⌜ FoundIs (now (table .entry)) n (id .0) r ⌝ }
+{
+    let mut k = table::word(slots, slot_of(id)) as usize;
+    while 0 < k {
+        let row = ItemRow(k - 1);
+        if is_in_row(table, n, id, row) {
+            return FoundRow::At(row);
+        }
+        let before = table::word(slots, 511 + k) as usize;
+        k = if before < k { before } else { 0 };
+    }
+    row_searched(table, n, id)
 }
 
 // Whether a row is one of the first n and has an ID.
@@ -56,28 +81,14 @@ fn guessed_row(table: &[u32], id: ItemId) -> ItemRow
     ItemRow((first - x) as usize)
 }
 
-// The row among the first n of an ID, searched for from a row on and round.
-fn row_round(table: &[u32], n: usize, id: ItemId, from: ItemRow) -> FoundRow
+// The first row of n with an ID.
+fn row_searched(table: &[u32], n: usize, id: ItemId) -> FoundRow
     requires { ⌜ (n ≤ 256) × (11280 ≤ length (now table)) ⌝ }
     ensures { λ r. ⌜ FoundIs (now (table .entry)) n (id .0) r ⌝ }
 {
-    let k = from.0;
-    let a = if k < n { k } else { 0 };
-    let first = row_between(table, a, n, id);
-    match first {
-        FoundRow::At(r) => FoundRow::At(r),
-        FoundRow::Nothing => row_between(table, 0, a, id),
-    }
-}
-
-// The first row from a to before e with an ID.
-fn row_between(table: &[u32], a: usize, e: usize, id: ItemId) -> FoundRow
-    requires { ⌜ (e ≤ 256) × (11280 ≤ length (now table)) ⌝ }
-    ensures { λ r. ⌜ FoundBetween (now (table .entry)) a e (id .0) r ⌝ }
-{
     let x = id.0;
-    let mut k = a;
-    while k < e {
+    let mut k: usize = 0;
+    while k < n {
         if table[Table::item(ItemRow(k))] == x {
             return FoundRow::At(ItemRow(k));
         }

@@ -13,10 +13,12 @@ ghost use Rattle.fields.specs.Lists.{member};
 ghost use Rattle.boxes.specs.Types.{dimg};
 ghost use Rattle.boxes.specs.Children.{contain};
 ghost use Rattle.contents.specs.Iref.{Derivation, derivedIn, targetsIn, reference, references};
-ghost use Rattle.records.specs.Rows.{idAt, idsIn, Distinct};
+ghost use Rattle.records.specs.Rows.{idAt, idsIn, Distinct, RowedTo};
 ghost use Rattle.records.specs.Stage.{Kept};
 ghost use Rattle.references.specs.Steps.{Marked, targetsFrom, toldTargets, TargetsLeft, Put, ChildrenLeft};
 ghost use Rattle.references.specs.Told.{toldReferences, ReferencesLeft};
+ghost use Rattle.references.specs.declared.TargetsPut.the-variants.{Done};
+ghost use Rattle.references.specs.declared.ReferencesRead.the-variants.{Targets};
 use boxes::Child;
 use boxes::Refusal;
 use contents::FullRead;
@@ -30,13 +32,23 @@ pub enum TargetsPut {
     Refused(Refusal),
 }
 
-// Target j of a reference, which is kept behind the `used` targets before it, or not at all.
-fn put_target(table: &mut [u32], keep: bool, used: usize, j: usize, id: u32)
-    requires { ⌜ (11280 ≤ length (now table)) × (keep ≡ true → used + j < 2048) ⌝ }
+// Target j of a reference and the row that it names, which are kept behind the `used` targets before it, or not at all.
+fn put_target(
+    table: &mut [u32],
+    rows: &mut [u32],
+    keep: bool,
+    used: usize,
+    j: usize,
+    id: u32,
+    row: ItemRow,
+)
+    requires { ⌜ (11280 ≤ length (now table)) × (2048 ≤ length (now rows)) × (keep ≡ true → used + j < 2048) × (row .0 < 256) ⌝ }
     ensures { λ _. ⌜ now (table .exit) ≡ sets (now (table .entry)) (7184 + used + j) (pick keep (id ∷ []) []) ⌝ }
+    ensures { λ _. ⌜ now (rows .exit) ≡ sets (now (rows .entry)) (used + j) (pick keep (row .0 ∷ []) []) ⌝ }
 {
     if keep {
         table[Table::TARGETS + used + j] = id;
+        rows[used + j] = row.0 as u32;
     }
 }
 
@@ -48,13 +60,16 @@ fn put_targets(
     k: usize,
     place: u64,
     table: &mut [u32],
+    rows: &mut [u32],
     n: usize,
+    slots: &[u32],
     keep: bool,
     used: usize,
 ) -> TargetsPut
-    requires { ⌜ (11280 ≤ length (now table)) × (n ≤ 256) × (from ≤ length (now s)) × ((w ≡ 2) ⊎ (w ≡ 4)) × (used ≤ 2048) × (keep ≡ true → used + k ≤ 2048) ⌝ }
+    requires { ⌜ (11280 ≤ length (now table)) × (2048 ≤ length (now rows)) × (n ≤ 256) × (from ≤ length (now s)) × ((w ≡ 2) ⊎ (w ≡ 4)) × (used ≤ 2048) × (keep ≡ true → used + k ≤ 2048) ⌝ }
     ensures { λ r. ⌜ r ≡ toldTargets (targetsFrom (idsIn (now (table .entry)) n) w k place (now (s .entry)) from) ⌝ }
     ensures { λ _. ⌜ TargetsLeft (targetsFrom (idsIn (now (table .entry)) n) w k place (now (s .entry)) from) k keep used (now (table .entry)) (now (table .exit)) ⌝ }
+    ensures { λ r. ⌜ (keep ≡ false → now (rows .exit) ≡ now (rows .entry)) × (keep ≡ true → r ≡ Done → RowedTo n used (now (table .entry)) (now (rows .entry)) → RowedTo n (used + k) (now (table .exit)) (now (rows .exit))) ⌝ }
 {
     let mut at = from;
     let mut hope: usize = 0;
@@ -64,11 +79,11 @@ fn put_targets(
             return TargetsPut::Refused(Refusal { number: 8, place });
         }
         let id = fields::be_id(s, at, w);
-        let f = records::row_of(&*table, n, ItemId(id), ItemRow(hope));
+        let f = records::row_of(&*table, n, ItemId(id), ItemRow(hope), slots);
         match f {
             FoundRow::Nothing => return TargetsPut::Refused(Refusal { number: 11, place }),
             FoundRow::At(row) => {
-                put_target(table, keep, used, j, id);
+                put_target(table, rows, keep, used, j, id, row);
                 hope = row.0 + 1;
                 at += w;
                 j += 1;
@@ -113,24 +128,33 @@ fn put_reference(
     w: usize,
     place: u64,
     table: &mut [u32],
+    rows: &mut [u32],
     n: usize,
+    slots: &[u32],
     used: usize,
 ) -> ReferencesRead
-    requires { ⌜ (11280 ≤ length (now table)) × (n ≤ 256) × ((w ≡ 2) ⊎ (w ≡ 4)) × (used ≤ 2048) ⌝ }
+    requires { ⌜ (11280 ≤ length (now table)) × (2048 ≤ length (now rows)) × (n ≤ 256) × ((w ≡ 2) ⊎ (w ≡ 4)) × (used ≤ 2048) ⌝ }
     ensures { λ _. ⌜ Kept (now (table .entry)) (now (table .exit)) × (derives ≡ false → now (table .exit) ≡ now (table .entry)) ⌝ }
     ensures { λ r. ⌜ ((before : List Derivation) → used ≡ targetsIn before → Marked (now (table .entry)) n before → Put w derives place (now (s .entry)) n used before (now (table .entry)) (now (table .exit)) r) ⌝ }
+    ensures { λ r. ⌜ ((m : ℕ) → r ≡ Targets m → RowedTo n used (now (table .entry)) (now (rows .entry)) → RowedTo n m (now (table .exit)) (now (rows .exit))) ⌝ }
 {
     if s.len() < w {
         return ReferencesRead::Refused(Refusal { number: 8, place });
     }
-    let f = records::row_of(&*table, n, ItemId(fields::be_id(s, 0, w)), ItemRow(0));
+    let f = records::row_of(
+        &*table,
+        n,
+        ItemId(fields::be_id(s, 0, w)),
+        ItemRow(0),
+        slots,
+    );
     match f {
         FoundRow::Nothing => ReferencesRead::Refused(Refusal { number: 11, place }),
         FoundRow::At(row) => {
             if is_second(&*table, derives, row) {
                 return ReferencesRead::Refused(Refusal { number: 10, place });
             }
-            put_counted(s, derives, w, place, table, n, row, used)
+            put_counted(s, derives, w, place, table, rows, n, slots, row, used)
         }
     }
 }
@@ -142,23 +166,26 @@ fn put_counted(
     w: usize,
     place: u64,
     table: &mut [u32],
+    rows: &mut [u32],
     n: usize,
+    slots: &[u32],
     row: ItemRow,
     used: usize,
 ) -> ReferencesRead
-    requires { ⌜ (11280 ≤ length (now table)) × (n ≤ 256) × ((w ≡ 2) ⊎ (w ≡ 4)) × (used ≤ 2048) ⌝ }
+    requires { ⌜ (11280 ≤ length (now table)) × (2048 ≤ length (now rows)) × (n ≤ 256) × ((w ≡ 2) ⊎ (w ≡ 4)) × (used ≤ 2048) ⌝ }
     requires { ⌜ (w ≤ length (now s)) × (row .0 < n) × (idAt (now table) (row .0) ≡ beAt (now s) 0 w) ⌝ }
     ensures { λ _. ⌜ Kept (now (table .entry)) (now (table .exit)) × (derives ≡ false → now (table .exit) ≡ now (table .entry)) ⌝ }
     ensures { λ r. ⌜ ((before : List Derivation) → used ≡ targetsIn before → (derives && member (beAt (now (s .entry)) 0 w) (derivedIn before)) ≡ false → Put w derives place (now (s .entry)) n used before (now (table .entry)) (now (table .exit)) r) ⌝ }
+    ensures { λ r. ⌜ ((m : ℕ) → r ≡ Targets m → RowedTo n used (now (table .entry)) (now (rows .entry)) → RowedTo n m (now (table .exit)) (now (rows .exit))) ⌝ }
 {
     if s.len() < w + 2 {
         return ReferencesRead::Refused(Refusal { number: 8, place });
     }
     let k = fields::be16(s, w) as usize;
     if derives {
-        return put_derivation(s, w, k, place, table, n, row, used);
+        return put_derivation(s, w, k, place, table, rows, n, slots, row, used);
     }
-    let t = put_targets(s, w + 2, w, k, place, table, n, false, used);
+    let t = put_targets(s, w + 2, w, k, place, table, rows, n, slots, false, used);
     match t {
         TargetsPut::Refused(r) => ReferencesRead::Refused(r),
         TargetsPut::Done => ReferencesRead::Targets(used),
@@ -172,14 +199,17 @@ fn put_derivation(
     k: usize,
     place: u64,
     table: &mut [u32],
+    rows: &mut [u32],
     n: usize,
+    slots: &[u32],
     row: ItemRow,
     used: usize,
 ) -> ReferencesRead
-    requires { ⌜ (11280 ≤ length (now table)) × (n ≤ 256) × ((w ≡ 2) ⊎ (w ≡ 4)) × (used ≤ 2048) ⌝ }
+    requires { ⌜ (11280 ≤ length (now table)) × (2048 ≤ length (now rows)) × (n ≤ 256) × ((w ≡ 2) ⊎ (w ≡ 4)) × (used ≤ 2048) ⌝ }
     requires { ⌜ (w + 2 ≤ length (now s)) × (row .0 < n) × (idAt (now table) (row .0) ≡ beAt (now s) 0 w) × (k ≡ beAt (now s) w 2) × (k < 65536) ⌝ }
     ensures { λ _. ⌜ Kept (now (table .entry)) (now (table .exit)) ⌝ }
     ensures { λ r. ⌜ ((before : List Derivation) → used ≡ targetsIn before → member (beAt (now (s .entry)) 0 w) (derivedIn before) ≡ false → Put w true place (now (s .entry)) n used before (now (table .entry)) (now (table .exit)) r) ⌝ }
+    ensures { λ r. ⌜ ((m : ℕ) → r ≡ Targets m → RowedTo n used (now (table .entry)) (now (rows .entry)) → RowedTo n m (now (table .exit)) (now (rows .exit))) ⌝ }
 {
     if k == 0 {
         return ReferencesRead::Refused(Refusal { number: 10, place });
@@ -187,7 +217,7 @@ fn put_derivation(
     if 2048 < used + k {
         return ReferencesRead::Refused(Refusal { number: 9, place });
     }
-    let t = put_targets(s, w + 2, w, k, place, table, n, true, used);
+    let t = put_targets(s, w + 2, w, k, place, table, rows, n, slots, true, used);
     match t {
         TargetsPut::Refused(r) => ReferencesRead::Refused(r),
         TargetsPut::Done => {
@@ -213,12 +243,15 @@ fn put_references(
     place: u64,
     base: u64,
     table: &mut [u32],
+    rows: &mut [u32],
     n: usize,
+    slots: &[u32],
 ) -> ReferencesRead
-    requires { ⌜ (11280 ≤ length (now table)) × (n ≤ 256) × (base + length (now s) < 18446744073709551616) × (4 ≤ length (now s)) × ((w ≡ 2) ⊎ (w ≡ 4)) ⌝ }
+    requires { ⌜ (11280 ≤ length (now table)) × (2048 ≤ length (now rows)) × (n ≤ 256) × (base + length (now s) < 18446744073709551616) × (4 ≤ length (now s)) × ((w ≡ 2) ⊎ (w ≡ 4)) ⌝ }
     requires { ⌜ Distinct (idsIn (now table) n) × ((k : ℕ) → k < n → getD (now table) (16 + 16 * k + 6) 0 ≡ 0) ⌝ }
     ensures { λ r. ⌜ r ≡ toldReferences (contain (reference (idsIn (now (table .entry)) n) w) place (base + 4) [] (drop 4 (now (s .entry)))) ⌝ }
     ensures { λ _. ⌜ ChildrenLeft (contain (reference (idsIn (now (table .entry)) n) w) place (base + 4) [] (drop 4 (now (s .entry)))) n (now (table .entry)) (now (table .exit)) ⌝ }
+    ensures { λ r. ⌜ ((m : ℕ) → r ≡ Targets m → RowedTo n m (now (table .exit)) (now (rows .exit))) ⌝ }
 {
     let mut at: usize = 4;
     let mut used: usize = 0;
@@ -227,7 +260,8 @@ fn put_references(
         let here = base + (at as u64);
         match c {
             Child::Whole { kind, body, end } => {
-                let r = put_reference(&s[body..end], is_dimg(kind), w, here, table, n, used);
+                let d = is_dimg(kind);
+                let r = put_reference(&s[body..end], d, w, here, table, rows, n, slots, used);
                 match r {
                     ReferencesRead::Refused(f) => return ReferencesRead::Refused(f),
                     ReferencesRead::Targets(k) => {
@@ -251,21 +285,24 @@ pub fn read_references(
     place: u64,
     base: u64,
     table: &mut [u32],
+    rows: &mut [u32],
     n: usize,
+    slots: &[u32],
 ) -> ReferencesRead
-    requires { ⌜ (11280 ≤ length (now table)) × (n ≤ 256) × (base + length (now s) < 18446744073709551616) ⌝ }
+    requires { ⌜ (11280 ≤ length (now table)) × (2048 ≤ length (now rows)) × (n ≤ 256) × (base + length (now s) < 18446744073709551616) ⌝ }
     requires { ⌜ Distinct (idsIn (now table) n) × ((k : ℕ) → k < n → getD (now table) (16 + 16 * k + 6) 0 ≡ 0) ⌝ }
     ensures { λ r. ⌜ r ≡ toldReferences (references (idsIn (now (table .entry)) n) place base (now (s .entry))) ⌝ }
     ensures { λ _. ⌜ ReferencesLeft (now (s .entry)) place base n (now (table .entry)) (now (table .exit)) ⌝ }
+    ensures { λ r. ⌜ ((m : ℕ) → r ≡ Targets m → RowedTo n m (now (table .exit)) (now (rows .exit))) ⌝ }
 {
     let h = contents::read_full(s, 0, 1, place);
     match h {
         FullRead::Refused(r) => ReferencesRead::Refused(r),
         FullRead::Is { version, flags: _ } => {
             if version == 0 {
-                return put_references(s, 2, place, base, table, n);
+                return put_references(s, 2, place, base, table, rows, n, slots);
             }
-            put_references(s, 4, place, base, table, n)
+            put_references(s, 4, place, base, table, rows, n, slots)
         }
     }
 }

@@ -57,6 +57,17 @@ module _ (f : File) (i : Item) where
       properties-free true false ec ed q = untrue q
       properties-free false d ec ed q = untrue q
 
+    -- and the other way: what the properties of an item say that is not refused
+    known-free : (b c d : Bool) → eqb (i .protection) 0 ≡ b → essentialKnown f (associationsOf f (i .id)) ≡ c → goodIspe (typesOf f (i .id)) ≡ d → faultOf (rule15-16 f i) ≡ 0 → (c && d) ≡ true
+    unfolding faultOf pick check _>>_
+    known-free true true true p ec ed z = refl
+    known-free true true false p ec ed z = absurd (omega (arith, sym z ∙ told true true true false e p ec ed))
+    known-free true false d p ec ed z = absurd (omega (arith, sym z ∙ told true true false d e p ec ed))
+    known-free false c d p ec ed z = absurd (omega (arith, sym z ∙ told true false c d e p ec ed))
+
+    pub free-known : faultOf (rule15-16 f i) ≡ 0 → (essentialKnown f (associationsOf f (i .id)) && goodIspe (typesOf f (i .id))) ≡ true
+    free-known z = known-free _ _ _ refl refl refl z
+
 -- the item in row r of a table, by what the code reads: k its type, p its protection; x whether it is an image
 module _ {t head : List ℕ} {pl : Places} {f : File} (v : TableOf t head pl f) (r : ℕ) (h : r < length (f .items))
     (k : ℕ) (ek : r < 256 → k ≡ recordWord t r 1) (x : Bool) (ex : x ≡ image k) where

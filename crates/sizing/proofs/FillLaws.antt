@@ -28,7 +28,7 @@ use Rattle.records.proofs.KeptLaws.{drop-sets}
 use Rattle.views.specs.View.{TableOf, Judging, AllPlaced, idOf}
 use Rattle.views.proofs.FillLaws.{filledTo, filled-none, filled-next, filled-all, filled-view}
 use Rattle.views.proofs.ViewLaws.{read-view, raw-judging}
-use Rattle.sizing.specs.Drawn.{sizesFor, sizesIn}
+use Rattle.sizing.specs.Drawn.{sizesFor, sizesIn, ToldBefore}
 
 -- sizesFor: five stores side by side
 pub sizes-stored : (t : List ℕ) (a r : ℕ) (s o : Size) (d : ℕ) → a ≡ 16 + 16 * r
@@ -84,13 +84,13 @@ module _ (head depths t : List ℕ) where
   filled-begun total f x e q g = q ∙ ap (λ (w : List ℕ). w ++ x) (sym (filled-none total head f))
 
   module _ (n k : ℕ) (u : List ℕ) (c : n ≡ getD t 0 0) (h : FilledRows head depths t k u) where
-    pub filled-more : (d m : ℕ) (v : List ℕ) → k < n → d ≡ getD depths k 0 → m ≡ 0
-        → ((pl : Places) (f : File) → TableOf u head pl f → k < length (f .items) → m ≡ 0 → v ≡ sets u (26 + 16 * k) (sizesIn f k d)) → FilledRows head depths t (k + 1) v
-    filled-more d m v l p none put total f x e q g =
+    pub filled-more : (d m : ℕ) (v : List ℕ) → k < n → d ≡ getD depths k 0 → m ≡ 0 → ((pl : Places) (f : File) → TableOf t head pl f → Judging t f → ToldBefore u f k)
+        → ((pl : Places) (f : File) → TableOf u head pl f → k < length (f .items) → ToldBefore u f k → m ≡ 0 → v ≡ sets u (26 + 16 * k) (sizesIn f k d)) → FilledRows head depths t (k + 1) v
+    filled-more d m v l p none told put total f x e q g =
         let w = read-here total head f x t e q in
         let i : k < length (f .items) = omega (arith, w .items) in
         let z = h total f x e q g in
-        put (placesIn total head) f (subst (λ (w : List ℕ). TableOf w head (placesIn total head) f) (sym z) (filled-view total head f e x k)) i none
+        put (placesIn total head) f (subst (λ (w : List ℕ). TableOf w head (placesIn total head) f) (sym z) (filled-view total head f e x k)) i (told (placesIn total head) f w (judging-here total head f x t q)) none
         ∙ ap (λ (w : List ℕ). sets w (26 + 16 * k) (sizesIn f k d)) z
         ∙ ap (sets (filledTo total head f k ++ x) (26 + 16 * k)) (sizes-words total head f k d (p ∙ g k i))
         ∙ filled-next total head f (w .bounded) x k i

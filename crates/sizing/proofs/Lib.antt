@@ -1,5 +1,6 @@
 pub mod FillLaws
 pub mod FaultLaws
+pub mod BeforeLaws
 pub mod OrderLaws
 pub mod StandLaws
 pub mod SizesLaws

@@ -1,7 +1,7 @@
 -- TableOf while sizes and depths are put into the records: no word that it speaks of changes. Assumes nothing.
 --   Beside k i                the word i is none of those of row k that say its sizes and its depth
 --   byRow f                   15 and 16 of each item
---   Standing head u pl f k    the table u is the file's, nothing was put into the rows from k on, and no item before them is refused
+--   Standing head u pl f k    the table u is the file's, nothing was put into the rows from k on, the sizes in the one before are its item's, and no item before them is refused
 --   Stands head t k u         so it is for every file whose table t was
 use Prim.Native.Nat.{ℕ, _+_, _*_, _<_, _≤_}
 use native.Mathlib.Omega.{arith}
@@ -25,11 +25,12 @@ use Rattle.records.proofs.SetsLaws.{sets-below, sets-above}
 use Rattle.views.specs.View.{TableOf, Judging, recordWord, wide, idOf}
 use Rattle.views.specs.Told.{faultOf}
 use Rattle.views.proofs.TableLaws.{row-small}
-use Rattle.sizing.specs.Drawn.{sizesIn}
+use Rattle.sizing.specs.Drawn.{sizesIn, ToldBefore}
 use Rattle.sizing.specs.Told.{toldFilled}
 use Rattle.sizing.specs.declared.Filled.{Filled}
 use Rattle.sizing.specs.declared.Filled.the-variants.{All, Refused}
 use Rattle.sizing.proofs.FillLaws.{sizes-five}
+use Rattle.sizing.proofs.BeforeLaws.{before-none, before-more}
 use Rattle.sizing.proofs.OrderLaws.{from, declared-blames, order-end, order-on, order-off}
 
 abbrev Beside : ℕ → ℕ → Type 0
@@ -98,6 +99,7 @@ byRow f k i = rule15-16 f i
 pub record Standing (head u : List ℕ) (pl : Places) (f : File) (k : ℕ) : Type 0 where
   pub view : TableOf u head pl f
   pub protection : (r : ℕ) → k ≤ r → r < length (f .items) → recordWord u r 12 ≡ itemAt f r .protection
+  pub told : ToldBefore u f k
   pub order : inOrder (byRow f) 0 (f .items) ≡ from (byRow f) f k
 
 abbrev pub Stands : List ℕ → List ℕ → ℕ → List ℕ → Type 0
@@ -105,24 +107,26 @@ Stands head t k u = (pl : Places) (f : File) → TableOf t head pl f → Judging
 
 module _ (head t : List ℕ) where
   pub stands-begun : Stands head t 0 t
-  stands-begun pl f v j = record { view = v; protection = λ r z h. j .protection r h; order = refl }
+  stands-begun pl f v j = record { view = v; protection = λ r z h. j .protection r h; told = before-none t f; order = refl }
 
   -- row k, whose number is m; the table is w then
   module _ (n k : ℕ) (u : List ℕ) (c : n ≡ getD t 0 0) (h : Stands head t k u) where
     module _ (d m : ℕ) (w : List ℕ) (l : k < n)
-        (fault : (pl : Places) (f : File) → TableOf u head pl f → k < length (f .items) → recordWord u k 12 ≡ itemAt f k .protection → m ≡ faultOf (rule15-16 f (itemAt f k))) where
-      pub stands-more : ((pl : Places) (f : File) → TableOf u head pl f → k < length (f .items) → m ≡ 0 → w ≡ sets u (26 + 16 * k) (sizesIn f k d)) → m ≡ 0 → Stands head t (k + 1) w
+        (fault : (pl : Places) (f : File) → TableOf u head pl f → k < length (f .items) → recordWord u k 12 ≡ itemAt f k .protection → ToldBefore u f k → m ≡ faultOf (rule15-16 f (itemAt f k))) where
+      pub stands-more : ((pl : Places) (f : File) → TableOf u head pl f → k < length (f .items) → ToldBefore u f k → m ≡ 0 → w ≡ sets u (26 + 16 * k) (sizesIn f k d)) → m ≡ 0 → Stands head t (k + 1) w
       stands-more put z pl f v j =
           let s = h pl f v j in
           let i : k < length (f .items) = omega (arith, v .items) in
-          let q = put pl f (s .view) i z in
+          let q = put pl f (s .view) i (s .told) z in
+          let free = fault pl f (s .view) i (s .protection k (omega arith) i) (s .told) in
           let five = sizes-five f k d in
           let long : length w ≡ length u = ap length q ∙ length-sets u (26 + 16 * k) (sizesIn f k d) in
           let same : (a : ℕ) → Beside k a → getD w a 0 ≡ getD u a 0 = λ a b. ap (λ (x : List ℕ). getD x a 0) q ∙ sets-beside u k (sizesIn f k d) five a b in
           record {
             view = view-kept u w k (row-small v k i) long same head pl f (s .view);
             protection = λ r a e. row-kept u w k (row-small v k i) long same r 12 (omega arith) ∙ s .protection r (omega arith) e;
-            order = s .order ∙ order-on (byRow f) f k m i (declared-blames f (itemAt f k)) (fault pl f (s .view) i (s .protection k (omega arith) i)) z;
+            told = before-more f k d u w (s .view .enough) (row-small v k i) q (sym free ∙ z);
+            order = s .order ∙ order-on (byRow f) f k m i (declared-blames f (itemAt f k)) free z;
           }
 
       pub stands-refused : ((m ≡ 0 → ⊥) → w ≡ u) → (m ≡ 0 → ⊥) → (id : ℕ) → (k < 256 → id ≡ recordWord w k 0)
@@ -132,7 +136,7 @@ module _ (head t : List ℕ) where
           let s = h pl f v j in
           let i : k < length (f .items) = omega (arith, v .items) in
           let same : id ≡ idOf f k = e (row-small v k i) ∙ ap (λ (x : List ℕ). recordWord x k 0) (left z) ∙ s .view .id k i in
-          rw same (sym (ap toldFilled (s .order ∙ order-off (byRow f) f k m i (declared-blames f (itemAt f k)) (fault pl f (s .view) i (s .protection k (omega arith) i)) z)))
+          rw same (sym (ap toldFilled (s .order ∙ order-off (byRow f) f k m i (declared-blames f (itemAt f k)) (fault pl f (s .view) i (s .protection k (omega arith) i) (s .told)) z)))
 
     pub stands-done : k ≡ n → (pl : Places) (f : File) → TableOf t head pl f → Judging t f → All ≡ toldFilled (inOrder (byRow f) 0 (f .items))
     unfolding toldFilled

@@ -1,8 +1,10 @@
 -- A table with sizes and depths, whose items keep 13 to 17: what 18 to 20 are judged by.
 --   sizesIn f r d        the five words of the record in row r that say its sizes and its depth d; an opaque item has none
+--   ToldBefore t f r     what the record before row r says of sizes, where it says a width, is what its item's properties say
 --   tilesFit s p g       what rule 20 says of the tiles of a grid g
 --   Drawn t rows head total f    the table t and the resolved rows are those of the file f
-use Prim.Native.Nat.{ℕ}
+use Prim.Native.Nat.{ℕ, suc}
+use mathlib.Core.Path.{_≡_}
 use mathlib.Core.List.{List, [], _∷_}
 use mathlib.Core.Bool.{Bool, _&&_}
 use lib.ListN.{replicate}
@@ -17,7 +19,9 @@ use Rattle.pictures.specs.Scene.{Picture, Scene, firstInput, allSize, covered, 
 use Rattle.rules.specs.Joined.{boxesOf, itemAt}
 use Rattle.rules.specs.Places.{placesIn}
 use Rattle.rules.specs.Derivations.{declaredIn, sceneOf}
-use Rattle.views.specs.View.{TableOf, SizesAre, AllPlaced, AllFed, idOf}
+use Rattle.views.specs.View.{TableOf, SizesAre, AllPlaced, AllFed, idOf, recordWord}
+use Rattle.declared.specs.Told.{toldSizes}
+use Rattle.declared.specs.declared.SizesRead.the-variants.{Are}
 use Rattle.derived.specs.Told.{Resolved}
 
 unfoldable pub sizesFor : Size → Size → ℕ → List ℕ
@@ -28,6 +32,9 @@ sizesIn f r d =
     pick (image (itemAt f r .type))
     (sizesFor (declaredIn (boxesOf f (idOf f r))) (sizeThrough (turnsOf (declaredIn (boxesOf f (idOf f r))) (boxesOf f (idOf f r))) (declaredIn (boxesOf f (idOf f r)))) d)
     (replicate 5 0)
+
+abbrev pub ToldBefore : List ℕ → File → ℕ → Type 0
+ToldBefore t f r = (k : ℕ) → suc k ≡ r → (recordWord t k 10 ≡ 0 → ⊥) → toldSizes f (idOf f k) ≡ Are (size (recordWord t k 10) (recordWord t k 11)) (size (recordWord t k 12) (recordWord t k 13))
 
 pub record Drawn (t rows head : List ℕ) (total : ℕ) (f : File) : Type 0 where
   pub view : TableOf t head (placesIn total head) f

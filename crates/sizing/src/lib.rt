@@ -7,7 +7,7 @@ ghost use lib.ListN.{length, getD, drop};
 ghost use lib.Seq.{sets};
 ghost use lib.Dec.{leb};
 ghost use Rattle.boxes.specs.Answer.{ok};
-ghost use Rattle.boxes.specs.Types.{image};
+ghost use Rattle.boxes.specs.Types.{image, derived};
 ghost use Rattle.contents.specs.Iinf.{Item};
 ghost use Rattle.contents.specs.File.{File, readFile};
 ghost use Rattle.pictures.specs.Scene.{Scene, pictureAt, outputOf, sameSize, goodSide, goodSize, firstInput, allSize, covered, madeUp, goodSizes};
@@ -20,9 +20,10 @@ ghost use Rattle.rules.specs.Derivations.{sceneOf};
 ghost use Rattle.rules.specs.Rules.{inOrder, rule15-16};
 ghost use Rattle.rules.specs.Words.{headWords, wordsOf};
 ghost use Rattle.records.specs.Raw.{rawOf};
-ghost use Rattle.views.specs.View.{TableOf, SizesAre, AllPlaced, recordWord};
+ghost use Rattle.views.specs.View.{TableOf, SizesAre, AllPlaced, recordWord, idOf};
+ghost use Rattle.declared.specs.Told.{toldSizes};
 ghost use Rattle.views.specs.Told.{faultOf};
-ghost use Rattle.sizing.specs.Drawn.{sizesFor, sizesIn, Drawn, tilesFit};
+ghost use Rattle.sizing.specs.Drawn.{sizesFor, sizesIn, ToldBefore, Drawn, tilesFit};
 ghost use Rattle.sizing.specs.Told.{toldFilled};
 use boxes::Refusal;
 use declared::SizesRead;
@@ -44,11 +45,37 @@ fn put_sizes(table: &mut [u32], row: ItemRow, s: Size, o: Size, depth: u32)
     table[at + 4] = depth;
 }
 
+// The sizes of the picture in a row, where those of the rows before it stand in their records. A camera gives the tiles of a grid the same properties: the row before is looked at first. Its width is 0 where it is opaque.
+fn sizes_of(head: &[u8], table: &[u32], row: ItemRow) -> SizesRead
+    ensures { λ r. ⌜ ((pl : Places) (f : File) → TableOf (now (table .entry)) (now (head .entry)) pl f → row .0 < length (f .items) → ToldBefore (now (table .entry)) f (row .0) → r ≡ toldSizes f (idOf f (row .0))) ⌝ }
+{
+    let r = row.0;
+    if 0 < r {
+        let last = ItemRow(r - 1);
+        let wide = views::record_word(table, last, 10);
+        if wide != 0 {
+            if declared::is_alike(table, row, last) {
+                return SizesRead::Are {
+                    declared: Size {
+                        wide,
+                        high: views::record_word(table, last, 11),
+                    },
+                    output: Size {
+                        wide: views::record_word(table, last, 12),
+                        high: views::record_word(table, last, 13),
+                    },
+                };
+            }
+        }
+    }
+    declared::read_sizes(head, table, row)
+}
+
 // The sizes and depth of the item in a row into its record; an opaque one has none. Where 15 or 16 refuses it, the number.
 fn fill_row(head: &[u8], table: &mut [u32], row: ItemRow, depth: u32) -> u32
     requires { ⌜ (11280 ≤ length (now table)) × (row .0 < 256) ⌝ }
-    ensures { λ r. ⌜ ((pl : Places) (f : File) → TableOf (now (table .entry)) (now (head .entry)) pl f → row .0 < length (f .items) → recordWord (now (table .entry)) (row .0) 12 ≡ itemAt f (row .0) .protection → r ≡ faultOf (rule15-16 f (itemAt f (row .0)))) ⌝ }
-    ensures { λ r. ⌜ ((pl : Places) (f : File) → TableOf (now (table .entry)) (now (head .entry)) pl f → row .0 < length (f .items) → r ≡ 0 → now (table .exit) ≡ sets (now (table .entry)) (26 + 16 * row .0) (sizesIn f (row .0) depth)) ⌝ }
+    ensures { λ r. ⌜ ((pl : Places) (f : File) → TableOf (now (table .entry)) (now (head .entry)) pl f → row .0 < length (f .items) → recordWord (now (table .entry)) (row .0) 12 ≡ itemAt f (row .0) .protection → ToldBefore (now (table .entry)) f (row .0) → r ≡ faultOf (rule15-16 f (itemAt f (row .0)))) ⌝ }
+    ensures { λ r. ⌜ ((pl : Places) (f : File) → TableOf (now (table .entry)) (now (head .entry)) pl f → row .0 < length (f .items) → ToldBefore (now (table .entry)) f (row .0) → r ≡ 0 → now (table .exit) ≡ sets (now (table .entry)) (26 + 16 * row .0) (sizesIn f (row .0) depth)) ⌝ }
     ensures { λ r. ⌜ ((r ≡ 0 → ⊥) → now (table .exit) ≡ now (table .entry)) ⌝ }
     ensures { λ _. ⌜ drop 11280 (now (table .exit)) ≡ drop 11280 (now (table .entry)) ⌝ }
 {
@@ -60,7 +87,7 @@ fn fill_row(head: &[u8], table: &mut [u32], row: ItemRow, depth: u32) -> u32
     if views::record_word(&*table, row, 12) != 0 {
         return 15;
     }
-    let s = declared::read_sizes(head, &*table, row);
+    let s = sizes_of(head, &*table, row);
     match s {
         SizesRead::Wrong => declared::properties_fault(&*table, row),
         SizesRead::Are { declared, output } => {
@@ -150,14 +177,31 @@ fn is_good_size(s: Size) -> bool
     false
 }
 
-// Whether all inputs of an item have the output size z.
+// The output size of an item of a table that is known to be as long as a file's.
+fn held_output(table: &[u32], row: ItemRow) -> Size
+    requires { ⌜ 11280 ≤ length (now table) ⌝ }
+    ensures { λ r. ⌜ ((s : Scene) → SizesAre (now (table .entry)) s → row .0 < length s → r ≡ outputOf (pictureAt s (row .0))) ⌝ }
+{
+    Size {
+        wide: views::held_word(table, row, 12),
+        high: views::held_word(table, row, 13),
+    }
+}
+
+// Whether all inputs of an item have the output size z. No table of a file is shorter: the one test spares each input its own.
 fn all_size(table: &[u32], rows: &[u32], row: ItemRow, z: Size) -> bool
     ensures { λ r. ⌜ ((total : ℕ) (head : List ℕ) (f : File) → Drawn (now (table .entry)) (now (rows .entry)) head total f → row .0 < length (f .items) → image (itemAt f (row .0) .type) ≡ true → r ≡ allSize (sceneOf total head f) z (pictureAt (sceneOf total head f) (row .0) .inputs)) ⌝ }
 {
+    if table.len() < Table::WORDS {
+        return true;
+    }
     let n = derived::input_count(table, row);
     let mut j: usize = 0;
     while j < n {
-        if !is_same(output_in(table, derived::input_of(table, rows, row, j)), z) {
+        if !is_same(
+            held_output(table, derived::input_of(table, rows, row, j)),
+            z,
+        ) {
             return false;
         }
         j += 1;
@@ -196,13 +240,10 @@ fn tiles_fit(
     is_same(declared_in(table, row), canvas)
 }
 
-// Whether the declared size is what the item's body or its input makes of it.
-fn is_made_up(head: &[u8], table: &[u32], rows: &[u32], row: ItemRow) -> bool
-    ensures { λ r. ⌜ ((total : ℕ) (f : File) → Drawn (now (table .entry)) (now (rows .entry)) (now (head .entry)) total f → row .0 < length (f .items) → image (itemAt f (row .0) .type) ≡ true → r ≡ madeUp (sceneOf total (now (head .entry)) f) (pictureAt (sceneOf total (now (head .entry)) f) (row .0)) (pictureAt (sceneOf total (now (head .entry)) f) (row .0) .recipe)) ⌝ }
+// Whether the declared size of a derived item is what its body or its input makes of it.
+fn is_as_derived(head: &[u8], table: &[u32], rows: &[u32], row: ItemRow) -> bool
+    ensures { λ r. ⌜ ((total : ℕ) (f : File) → Drawn (now (table .entry)) (now (rows .entry)) (now (head .entry)) total f → row .0 < length (f .items) → image (itemAt f (row .0) .type) ≡ true → derived (itemAt f (row .0) .type) ≡ true → r ≡ madeUp (sceneOf total (now (head .entry)) f) (pictureAt (sceneOf total (now (head .entry)) f) (row .0)) (pictureAt (sceneOf total (now (head .entry)) f) (row .0) .recipe)) ⌝ }
 {
-    if !views::is_derived(views::type_of(table, row)) {
-        return true;
-    }
     let d = derived::derivation_of(head, table, row);
     match d {
         Derivation::Wrong => true,
@@ -218,6 +259,16 @@ fn is_made_up(head: &[u8], table: &[u32], rows: &[u32], row: ItemRow) -> bool
         } => tiles_fit(table, rows, row, down, columns, Size { wide, high }),
         Derivation::Layers { wide, high } => is_same(declared_in(table, row), Size { wide, high }),
     }
+}
+
+// Whether the declared size is what the item's body or its input makes of it; a coded item has neither, and hands nothing on.
+fn is_made_up(head: &[u8], table: &[u32], rows: &[u32], row: ItemRow) -> bool
+    ensures { λ r. ⌜ ((total : ℕ) (f : File) → Drawn (now (table .entry)) (now (rows .entry)) (now (head .entry)) total f → row .0 < length (f .items) → image (itemAt f (row .0) .type) ≡ true → r ≡ madeUp (sceneOf total (now (head .entry)) f) (pictureAt (sceneOf total (now (head .entry)) f) (row .0)) (pictureAt (sceneOf total (now (head .entry)) f) (row .0) .recipe)) ⌝ }
+{
+    if !views::is_derived(views::type_of(table, row)) {
+        return true;
+    }
+    is_as_derived(head, table, rows, row)
 }
 
 // Rule 20 for the picture in a row.

@@ -1,7 +1,7 @@
 -- From reading and judging to the answer, 1 to 20, and to what is left in the table. Assumes nothing.
-use Prim.Native.Nat.{ℕ, _+_, _≤_}
+use Prim.Native.Nat.{ℕ, _+_, _<_, _≤_}
 use native.Mathlib.Omega.{arith}
-use mathlib.Core.Path.{_≡_, refl, sym, ap, _∙_}
+use mathlib.Core.Path.{_≡_, refl, sym, ap, _∙_, subst}
 use mathlib.Core.List.{List, _++_}
 use mathlib.Core.Bool.{Bool, true, false}
 use lib.ListN.{length, drop, replicate}
@@ -11,7 +11,7 @@ use borrow.Author.Tests.{leb-true, le-leb, le-ltb}
 use Rattle.fields.proofs.FieldLaws.{pick-yes, pick-no}
 use Rattle.table.specs.Clear.{cleared}
 use Rattle.boxes.specs.Answer.{Answer, ok, refuse, check, _>>=_, _>>_}
-use Rattle.boxes.proofs.AnswerLaws.{then-ok, check-ok}
+use Rattle.boxes.proofs.AnswerLaws.{then-ok, check-ok, ok-inj}
 use Rattle.boxes.specs.declared.Refusal.{Refusal}
 use Rattle.contents.specs.File.{File, readFile}
 use Rattle.rules.specs.Places.{placesIn}
@@ -19,6 +19,7 @@ use Rattle.rules.specs.Rules.{judged}
 use Rattle.rules.specs.Words.{tableWords, headWords, wordsOf}
 use Rattle.rules.specs.Questions.{accepted, opened, leftBy, after}
 use Rattle.records.specs.Raw.{rawOf}
+use Rattle.records.specs.Rows.{Rowed}
 use Rattle.records.proofs.RawLaws.{raw-length}
 use Rattle.reading.specs.Parts.{toldFile, readAnswer, readWords}
 use Rattle.reading.specs.Parts as Parts
@@ -26,6 +27,9 @@ use Rattle.reading.specs.declared.FileRead.the-variants as read
 use Rattle.judging.specs.Order.{toldJudged, Read}
 use Rattle.judging.specs.declared.Judged.the-variants as judge
 use Rattle.records.proofs.BoundLaws.{read-bounds}
+use Rattle.rules.proofs.RuleLaws.{judged-each}
+use Rattle.derived.specs.Told.{Resolved}
+use Rattle.judging.proofs.JudgeLaws.{rowed-resolved, read-here, drawn}
 use Rattle.still.specs.Told.{toldOpened}
 use Rattle.still.specs.declared.Opened.the-variants.{Accepted, Refused}
 
@@ -50,6 +54,10 @@ judged-good : (m : Answer (Unit {0})) → judge.Good ≡ toldJudged m → m ≡ 
 unfolding toldJudged
 judged-good (ok tt) e = refl
 judged-good (refuse n p) e = let z : _≡_ {A = ℕ} 0 1 = cc in absurd (omega arith)
+
+-- what is refused is not accepted
+pub not-accepted : {A : Type 0} (y : Refusal) → Refused y ≡ Accepted → A
+not-accepted y e = let z : _≡_ {A = ℕ} 0 1 = cc in absurd (omega arith)
 
 module _ (total : ℕ) (head t : List ℕ) where
   -- a table of sufficient length
@@ -130,3 +138,12 @@ module _ (total : ℕ) (head t : List ℕ) where
       let k = judged-good (judged total head f) j in
       let e : accepted total head ≡ ok f = rw (r, k) in
       (ap toldOpened (sym (opened-is h ∙ e)), w k ∙ sym (after-is h ∙ ap (leftBy total head t) e))
+
+-- of an accepted file the rows that were read beside the targets are still those of the items that they name: judging leaves the targets as they were
+pub judged-rowed : (total : ℕ) (head : List ℕ) → total < 18446744073709551616 → (e : ℕ) (f : File) (u v x rows : List ℕ) → Read u head total e f x → Rowed u rows → judge.Good ≡ toldJudged (judged total head f) → (judged total head f ≡ ok tt → v ≡ wordsOf total head f ++ x)
+    → (g : File) → readFile total head ≡ ok g → Resolved v rows g
+judged-rowed total head few e f u v x rows w r j l g q =
+    let k = judged-good (judged total head f) j in
+    let y = judged-each total head f k in
+    let d = drawn head u x total e f w few (y .by-13-14) (y .by-17) v rows (l k) (rowed-resolved u rows head _ f (read-here head u x total e f w) r) in
+    subst (λ (h : File). Resolved v rows h) (ok-inj _ _ (sym (w .read) ∙ q)) (d .resolved)

@@ -12,7 +12,7 @@ use Rattle.boxes.specs.Answer.{Answer, ok, refuse, check, _>>=_, _>>_}
 use Rattle.boxes.specs.Types.{image}
 use Rattle.boxes.proofs.AnswerLaws.{bind-ok, then-ok, check-ok, ok-inj}
 use Rattle.boxes.specs.declared.Refusal.{Refusal}
-use Rattle.contents.specs.File.{File}
+use Rattle.contents.specs.File.{File, readFile}
 use Rattle.pictures.specs.Scene.{Scene, pictureAt, outputOf}
 use Rattle.pictures.specs.Depth.{depth}
 use Rattle.rules.specs.Joined.{itemAt}
@@ -125,6 +125,9 @@ module _ (total : ℕ) (head t : List ℕ) where
 
     file-accepted : accepted total head ≡ ok file
     file-accepted = sym (opened-is total head t enough) ∙ file-opened
+
+    pub file-read : readFile total head ≡ ok file
+    file-read = accepted-both total head file file-accepted .0
 
     pub table-is : u ≡ wordsOf total head file ++ drop 11280 t
     unfolding leftBy

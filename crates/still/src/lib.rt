@@ -1,16 +1,18 @@
 // The public questions. Each call reads the file afresh; a table that was lent is the file's afterwards, or all 0 where the file is refused.
 ghost use mathlib.Core.Path.{_≡_};
 ghost use mathlib.Core.List.{List};
-ghost use Prim.Native.Nat.{ℕ};
+ghost use Prim.Native.Nat.{ℕ, _≤_};
 ghost use lib.ListN.{length};
-ghost use Rattle.contents.specs.File.{File};
+ghost use Rattle.contents.specs.File.{File, readFile};
 ghost use Rattle.rules.specs.Places.{Places};
 ghost use Rattle.rules.specs.Derivations.{sceneOf};
 ghost use Rattle.rules.specs.Questions.{sizeIn, traceIn, sourcesIn, listAfter, foundBy};
 ghost use Rattle.rules.specs.Questions as Q;
 ghost use Rattle.views.specs.View.{TableOf, SizesAre};
 ghost use Rattle.pictures.specs.Trace as Trace;
+ghost use Rattle.derived.specs.Told.{Resolved};
 ghost use Rattle.tracing.specs.Told.{Shown, toldEnd};
+ghost use Rattle.still.specs.declared.Opened.the-variants.{Accepted};
 ghost use Rattle.still.specs.Told.{endRow, toldPictured, toldSized, toldTraced, toldListed, indexIn, toldAsked, toldBy};
 ghost use Rattle.still.specs.Given.{OpenedGiven, VerdictGiven, SizeGiven, TraceGiven, SourcesGiven, AskedGiven, PropertyGiven};
 ghost use Rattle.boxes.specs.Answer.{ok};
@@ -30,15 +32,17 @@ pub enum Opened {
     Refused(Refusal),
 }
 
-// Reading and judging: 1 to 20.
-pub fn open_file(head: &[u8], total: u64, table: &mut [u32]) -> Opened
+// Reading and judging: 1 to 20. Where the file is accepted, `rows` has for each target the row that it names; elsewhere nothing is said of it.
+fn open_rows(head: &[u8], total: u64, table: &mut [u32], rows: &mut [u32]) -> Opened
+    requires { ⌜ 2048 ≤ length (now rows) ⌝ }
     ensures { λ r. ⌜ OpenedGiven (now (head .entry)) total (now (table .entry)) r (now (table .exit)) ⌝ }
+    ensures { λ r. ⌜ ((f : File) → r ≡ Accepted → readFile total (now (head .entry)) ≡ ok f → Resolved (now (table .exit)) (now (rows .exit)) f) ⌝ }
 {
-    let r = reading::read_file(head, total, table);
+    let r = reading::read_file(head, total, table, rows);
     match r {
         FileRead::Refused(f) => Opened::Refused(f),
         FileRead::Is { idat: _, idat_end } => {
-            let j = judging::judge(head, total, table, idat_end);
+            let j = judging::judge(head, total, table, &*rows, idat_end);
             match j {
                 Judged::Good => Opened::Accepted,
                 Judged::Refused(f) => {
@@ -48,6 +52,14 @@ pub fn open_file(head: &[u8], total: u64, table: &mut [u32]) -> Opened
             }
         }
     }
+}
+
+// The same for whoever has no use for the rows.
+pub fn open_file(head: &[u8], total: u64, table: &mut [u32]) -> Opened
+    ensures { λ r. ⌜ OpenedGiven (now (head .entry)) total (now (table .entry)) r (now (table .exit)) ⌝ }
+{
+    let mut rows = [0u32; 2048];
+    open_rows(head, total, table, &mut rows)
 }
 
 pub enum FileVerdict {
@@ -212,9 +224,9 @@ pub enum Listed {
     Refused(Refusal),
 }
 
-// The sources of an item of an accepted file's table into a lent list: 21, 22, then 24.
-fn sources_in(table: &[u32], id: ItemId, list: &mut [u32]) -> Listed
-    ensures { λ r. ⌜ ((total : ℕ) (head : List ℕ) (f : File) → Shown (now (table .entry)) head total f → (r ≡ toldListed (sourcesIn (sceneOf total head f) f (id .0) (length (now (list .entry))))) × (now (list .exit) ≡ listAfter (sourcesIn (sceneOf total head f) f (id .0) (length (now (list .entry)))) (now (list .entry)))) ⌝ }
+// The sources of an item of an accepted file's table, whose targets name `rows`, into a lent list: 21, 22, then 24.
+fn sources_in(table: &[u32], rows: &[u32], id: ItemId, list: &mut [u32]) -> Listed
+    ensures { λ r. ⌜ ((total : ℕ) (head : List ℕ) (f : File) → Shown (now (table .entry)) head total f → Resolved (now (table .entry)) (now (rows .entry)) f → (r ≡ toldListed (sourcesIn (sceneOf total head f) f (id .0) (length (now (list .entry))))) × (now (list .exit) ≡ listAfter (sourcesIn (sceneOf total head f) f (id .0) (length (now (list .entry)))) (now (list .entry)))) ⌝ }
 {
     let r = picture_row(table, id);
     match r {
@@ -224,9 +236,7 @@ fn sources_in(table: &[u32], id: ItemId, list: &mut [u32]) -> Listed
             if 256 < n {
                 return Listed::Is(0);
             }
-            let mut rows = [0u32; 2048];
-            derived::resolve(table, &mut rows);
-            let marks = depths::needed_of(table, &rows, n, row);
+            let marks = depths::needed_of(table, rows, n, row);
             let count = needed::count_sources(table, &marks, n);
             if list.len() < count {
                 return Listed::Refused(refusal(24, id));
@@ -241,10 +251,11 @@ fn sources_in(table: &[u32], id: ItemId, list: &mut [u32]) -> Listed
 pub fn sources(head: &[u8], total: u64, table: &mut [u32], id: ItemId, list: &mut [u32]) -> Listed
     ensures { λ r. ⌜ SourcesGiven (now (head .entry)) total (now (table .entry)) (id .0) (now (list .entry)) r (now (list .exit)) (now (table .exit)) ⌝ }
 {
-    let o = open_file(head, total, table);
+    let mut rows = [0u32; 2048];
+    let o = open_rows(head, total, table, &mut rows);
     match o {
         Opened::Refused(f) => Listed::Refused(f),
-        Opened::Accepted => sources_in(&*table, id, list),
+        Opened::Accepted => sources_in(&*table, &rows, id, list),
     }
 }
 

@@ -33,7 +33,7 @@ pub fn row_at(_table: &[u32], place: usize) -> ItemRow
     ItemRow(place)
 }
 
-// The row of an ID, looked for from a row on that the caller hopes for.
+// The row of an ID, looked for from a row on that the caller hopes for. No slots were kept.
 pub fn row_named(table: &[u32], id: ItemId, hope: ItemRow) -> FoundRow
     ensures { λ r. ⌜ ((head : List ℕ) (pl : Places) (f : File) → TableOf (now (table .entry)) head pl f → r ≡ toldRow (id .0) (f .items)) ⌝ }
 {
@@ -44,7 +44,8 @@ pub fn row_named(table: &[u32], id: ItemId, hope: ItemRow) -> FoundRow
     if 256 < n {
         return FoundRow::Nothing;
     }
-    records::row_of(table, n, id, hope)
+    let none = [0u32; 1];
+    records::row_of(table, n, id, hope, &none)
 }
 
 // A word of the record in a row.
@@ -55,6 +56,18 @@ pub fn record_word(table: &[u32], row: ItemRow, k: usize) -> u32
     let r = row.0;
     if r < 256 {
         return table::word(table, 16 + 16 * r + k);
+    }
+    0
+}
+
+// The same of a table that is known to be as long as a file's: its end is not tested for.
+pub fn held_word(table: &[u32], row: ItemRow, k: usize) -> u32
+    requires { ⌜ (k < 16) × (11280 ≤ length (now table)) ⌝ }
+    ensures { λ r. ⌜ (row .0 < 256 → r ≡ recordWord (now (table .entry)) (row .0) k) ⌝ }
+{
+    let r = row.0;
+    if r < 256 {
+        return table[16 + 16 * r + k];
     }
     0
 }

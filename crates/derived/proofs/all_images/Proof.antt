@@ -22,28 +22,28 @@ Inv-loop table rows row n j₀ j = (j ≤ n) × ((head : List ℕ) (pl : Places)
 abbrev μ-loop : tie.MeasureT-loop
 μ-loop table rows row n j₀ j = n - j
 
-returns : tie.Need-returns Inv-loop μ-loop
-returns c =
+returns-2 : tie.Need-returns-2 Inv-loop μ-loop
+returns-2 c =
     λ head pl f v w h.
-    let a = c .before .before .before .before .before .before .before .before .before .args in
+    let a = c .before .before .before .before .before .before .before .before .before .before .args in
     let j = c .before .before .before .before .before .loop .j in
     let l : j < length (targetsOf f (idOf f (a .row .0))) = omega (arith, c .before .before .before .before .before .before .input-count .ensures head pl f v h) in
-    images-not f _ j l _ (input-image v (a .row .0) j l _ _ _ (c .before .before .before .input-of .ensures head pl f v w h l) (c .before .before .type-of .ensures) (c .before .is-image .ensures)) (not-true _ (c .if1 .taken)) (c .before .before .before .before .before .loop .inv .1 head pl f v w h)
+    images-not f _ j l _ (input-image v (a .row .0) j l _ _ _ (c .before .before .before .input-of .ensures head pl f v w h l) (c .before .before .held-word .ensures) (c .before .is-image .ensures)) (not-true _ (c .if2 .taken)) (c .before .before .before .before .before .loop .inv .1 head pl f v w h)
 
 loop-again : tie.Need-loop-again Inv-loop μ-loop
 loop-again c = (
   omega arith,
   λ head pl f v w h.
-      let a = c .before .before .before .before .before .before .before .before .before .args in
+      let a = c .before .before .before .before .before .before .before .before .before .before .args in
       let j = c .before .before .before .before .before .loop .j in
       let l : j < length (targetsOf f (idOf f (a .row .0))) = omega (arith, c .before .before .before .before .before .before .input-count .ensures head pl f v h) in
-      images-more f _ j l _ (input-image v (a .row .0) j l _ _ _ (c .before .before .before .input-of .ensures head pl f v w h l) (c .before .before .type-of .ensures) (c .before .is-image .ensures)) (not-false _ (c .if1 .left)) (c .before .before .before .before .before .loop .inv .1 head pl f v w h),
+      images-more f _ j l _ (input-image v (a .row .0) j l _ _ _ (c .before .before .before .input-of .ensures head pl f v w h l) (c .before .before .held-word .ensures) (c .before .is-image .ensures)) (not-false _ (c .if2 .left)) (c .before .before .before .before .before .loop .inv .1 head pl f v w h),
 )
 
-returns-2 : tie.Need-returns-2 Inv-loop μ-loop
-returns-2 c = λ head pl f v w h. images-all f _ (c .before .loop .j) (omega (arith, c .before .before .input-count .ensures head pl f v h)) (c .before .loop .inv .1 head pl f v w h)
+returns-3 : tie.Need-returns-3 Inv-loop μ-loop
+returns-3 c = λ head pl f v w h. images-all f _ (c .before .loop .j) (omega (arith, c .before .before .input-count .ensures head pl f v h)) (c .before .loop .inv .1 head pl f v w h)
 
 pub all-images-spec : {M : Type 1} → statement M
 all-images-spec =
-    tie.close (tie.spec Inv-loop μ-loop (search needs) (λ c. (omega arith, λ head pl f v w h. refl)) (search needs)
-    (search needs) (search needs) returns (search needs) (search needs) loop-again returns-2)
+    tie.close (tie.spec Inv-loop μ-loop (λ c. λ head pl f v w h. absurd (omega (arith, v .enough))) (search needs) (λ c. (omega arith, λ head pl f v w h. refl)) (search needs)
+    (search needs) (search needs) returns-2 (search needs) (search needs) loop-again returns-3)

@@ -1,42 +1,53 @@
 -- `items::fill_items` meets its contract: the rows before i hold the items of the boxes before `at`. Assumes nothing.
 use Prim.Native.Nat.{_-_}
 use native.Mathlib.Omega.{arith}
-use mathlib.Core.Path.{refl, sym}
+use mathlib.Core.Path.{_≡_, refl, _∙_}
+use lib.ListN.{length}
 use Rattle.items.proofs.FillLaws.{So, begin, left-over, all-read, gone, stored}
 use borrow.Author.Needs.{needs}
 use Rattle.items.proofs.fill_items.Statement.{statement}
 use Rattle.items.proofs.fill_items.Tie as tie
 
 abbrev Inv-loop : tie.InvT-loop
-Inv-loop s from n place base table₀ at₀ bounds₀ seen₀ i₀ table at bounds seen i = So s from n place base table₀ table at bounds seen i
+Inv-loop s from n place base table₀ slots₀ at₀ bounds₀ i₀ table slots at bounds i = So s from n place base table₀ table at bounds slots i × (length slots ≡ length slots₀)
 
 abbrev μ-loop : tie.MeasureT-loop
-μ-loop s from n place base table₀ at₀ bounds₀ seen₀ i₀ table at bounds seen i = n - i
+μ-loop s from n place base table₀ slots₀ at₀ bounds₀ i₀ table slots at bounds i = n - i
 
 loop-holds : tie.Need-loop-holds Inv-loop μ-loop
-loop-holds c = let a = c .before .before .args in begin (a .s .now) (a .from) (a .n) (a .place) (a .base) (a .table .now) _ _ refl (c .before .before .pre .2)
+loop-holds c = let a = c .before .before .before .args in (begin (a .s .now) (a .from) (a .n) (a .place) (a .base) (a .table .now) _ _ (c .before .before .before .pre .1) (c .before .before .before .pre .3), refl)
 
 next-item-requires : tie.Need-next-item-requires Inv-loop μ-loop
 next-item-requires c κs =
     let l = c .before .before .before .loop in
-    let p = c .before .before .before .before .before .before .pre in
-    (p .1, l .inv .here, record { room = omega (arith, p .0, l .inv .kept .same-length); few = omega (arith, c .before .before .loop-test .taken, p .3); within = l .inv .within; seen = l .inv .seen })
+    let p = c .before .before .before .before .before .before .before .pre in
+    (p .2, l .inv .0 .here, record { room = omega (arith, p .0, l .inv .0 .kept .same-length); few = omega (arith, c .before .before .loop-test .taken, p .4); within = l .inv .0 .within; filled = l .inv .0 .filled })
 
 returns : tie.Need-returns Inv-loop μ-loop
-returns c = let a = c .before .before .before .before .before .before .before .before .before .before .args in let l = c .before .before .before .before .before .before .before .loop in let p = c .before .before .before .before .before .before .before .before .before .before .pre in gone (a .s .now) (a .from) (a .n) (a .place) (a .base) (a .table .now) (l .table) (l .at) (l .bounds) (l .seen) (l .i) (l .inv) (c .before .before .before .before .before .before .loop-test .taken) (p .3) (p .0) _ (c .before .before .before .next-item .ensures) _ (c .before .t .given .1)
+returns c = let a = c .before .before .before .before .before .before .before .before .before .before .before .args in let l = c .before .before .before .before .before .before .before .loop in let p = c .before .before .before .before .before .before .before .before .before .before .before .pre in gone (a .s .now) (a .from) (a .n) (a .place) (a .base) (a .table .now) (l .table) (l .at) (l .bounds) (l .slots) (l .i) (l .inv .0) (c .before .before .before .before .before .before .loop-test .taken) (p .4) (p .0) _ (c .before .before .before .next-item .ensures) _ (c .before .t .given .1)
+
+put-slot-requires : tie.Need-put-slot-requires Inv-loop μ-loop
+put-slot-requires c κs = (c .before .before .before .before .before .before .before .before .before .before .before .before .before .before .loop .inv .0 .slots, omega (arith, c .before .before .before .before .before .before .before .before .before .before .before .before .before .loop-test .taken, c .before .before .before .before .before .before .before .before .before .before .before .before .before .before .before .before .before .before .pre .4))
 
 loop-again : tie.Need-loop-again Inv-loop μ-loop
-loop-again c = let a = c .before .before .before .before .before .before .before .before .before .before .before .before .before .before .before .before .before .args in let l = c .before .before .before .before .before .before .before .before .before .before .before .before .before .before .loop in let p = c .before .before .before .before .before .before .before .before .before .before .before .before .before .before .before .before .before .pre in stored (a .s .now) (a .from) (a .n) (a .place) (a .base) (a .table .now) (l .table) (l .at) (l .bounds) (l .seen) (l .i) (l .inv) (c .before .before .before .before .before .before .before .before .before .before .before .before .before .loop-test .taken) (p .3) (p .0) _ (c .before .before .before .before .before .before .before .before .before .before .next-item .ensures) _ _ (c .before .before .before .before .before .before .before .before .t2 .given .1) _ _ (c .before .before .before .before .put-item .ensures) (c .before .widened .ensures)
+loop-again c =
+    let a = c .before .before .before .before .before .before .before .before .before .before .before .before .before .before .before .before .before .before .before .before .before .args in
+    let l = c .before .before .before .before .before .before .before .before .before .before .before .before .before .before .before .before .before .loop in
+    let p = c .before .before .before .before .before .before .before .before .before .before .before .before .before .before .before .before .before .before .before .before .before .pre in (
+      stored (a .s .now) (a .from) (a .n) (a .place) (a .base) (a .table .now) (l .table) (l .at) (l .bounds) (l .slots) (l .i) (l .inv .0) (c .before .before .before .before .before .before .before .before .before .before .before .before .before .before .before .before .loop-test .taken) (p .4) (p .0) _ (c .before .before .before .before .before .before .before .before .before .before .before .before .before .next-item .ensures) _ _ (c .before .before .before .before .before .before .before .before .before .before .before .t2 .given .1) _ _ _ (c .before .before .put-slot .ensures) (c .before .before .before .before .before .before .before .put-item .ensures) (c .before .before .before .before .widened .ensures),
+      c .before .before .put-slot .kept .0 ∙ l .inv .1,
+    )
 
 returns-2 : tie.Need-returns-2 Inv-loop μ-loop
-returns-2 c = let a = c .before .before .before .before .before .args in let l = c .before .before .loop in left-over (a .s .now) (a .from) (a .n) (a .place) (a .base) (a .table .now) (l .table) (l .at) (l .bounds) (l .seen) (l .i) (l .inv) (c .before .loop-test .left) (c .if1 .taken)
+returns-2 c = let a = c .before .before .before .before .before .before .args in let l = c .before .before .loop in left-over (a .s .now) (a .from) (a .n) (a .place) (a .base) (a .table .now) (l .table) (l .at) (l .bounds) (l .slots) (l .i) (l .inv .0) (c .before .loop-test .left) (c .if1 .taken)
 
 returns-3 : tie.Need-returns-3 Inv-loop μ-loop
-returns-3 c = let a = c .before .before .before .before .before .args in let l = c .before .before .loop in all-read (a .s .now) (a .from) (a .n) (a .place) (a .base) (a .table .now) (l .table) (l .at) (l .bounds) (l .seen) (l .i) (l .inv) (c .before .loop-test .left) (c .if1 .left)
+returns-3 c = let a = c .before .before .before .before .before .before .args in let l = c .before .before .loop in all-read (a .s .now) (a .from) (a .n) (a .place) (a .base) (a .table .now) (l .table) (l .at) (l .bounds) (l .slots) (l .i) (l .inv .0) (c .before .loop-test .left) (c .if1 .left)
 
 pub fill-items-spec : {M : Type 1} → statement M
 fill-items-spec =
-    tie.close (tie.spec Inv-loop μ-loop loop-holds (λ c. sym (c .before .before .before .loop .inv .marks)) next-item-requires
-    (λ c. search needs) (λ c. search needs) returns (λ c. search needs) (λ c κs. search needs) (λ c κs. search needs)
-    (search needs) (search needs) (search needs) (λ c. search needs) (λ c. search needs) loop-again (λ c. search needs)
-    returns-2 (λ c. search needs) returns-3)
+    tie.close (tie.spec Inv-loop μ-loop loop-holds next-item-requires
+    (λ c. search needs) (λ c. c .before .before .before .before .before .before .before .loop .inv .0 .kept .same-length) (λ c. c .before .before .before .before .before .before .before .loop .inv .1) returns
+    (λ c. search needs) (λ c κs. search needs) (λ c κs. search needs) put-slot-requires
+    (λ c. search needs) (λ c. search needs) loop-again (λ c. c .before .before .loop .inv .0 .kept .same-length) (λ c. c .before .before .loop .inv .1)
+    returns-2 (λ c. c .before .before .loop .inv .0 .kept .same-length) (λ c. c .before .before .loop .inv .1) returns-3)

@@ -1,6 +1,6 @@
 -- `judging::fault_of` meets its contract. Assumes nothing.
 use Rattle.judging.specs.Order.{ruleBy}
-use Rattle.judging.specs.declared.Rule.the-variants.{Placed, Derived, Itself, Deep, Sized}
+use Rattle.judging.specs.declared.Rule.the-variants.{Placed, Derived, Itself, Deep}
 use Rattle.judging.proofs.OrderLaws.{by-rule}
 use borrow.Author.Needs.{needs}
 use Rattle.judging.proofs.fault_of.Statement.{statement}
@@ -22,11 +22,7 @@ returns-4 : tie.Need-returns-4
 unfolding ruleBy
 returns-4 c = λ f h l. by-rule _ _ _ _ _ f _ Deep _ _ (c .before .enum-told4 .given .1) (λ w. c .deep-fault .ensures _ _ _ f w l) h
 
-returns-5 : tie.Need-returns-5
-unfolding ruleBy
-returns-5 c = λ f h l. by-rule _ _ _ _ _ f _ (Sized _) _ _ (c .before .before .rule .given .1) (λ w. c .size-fault .ensures _ f w l) h
-
 pub fault-of-spec : {M : Type 1} → statement M
 fault-of-spec =
     tie.close (tie.spec (search needs) (search needs) (search needs) (search needs) (search needs) (search needs)
-    (search needs) (search needs) (search needs) (search needs) returns returns-2 returns-3 returns-4 returns-5)
+    (search needs) (search needs) returns returns-2 returns-3 returns-4)

@@ -2,7 +2,7 @@
 use mathlib.Core.Path.{refl, sym, _∙_}
 use borrow.Author.Tests.{not-true, not-false}
 use Rattle.judging.proofs.JudgedLaws.{told-good, placed-all}
-use Rattle.judging.proofs.JudgeLaws.{refused-by, read-here, early, primary-off, placed-off, placed-on}
+use Rattle.judging.proofs.JudgeLaws.{rowed-resolved, refused-by, read-here, early, primary-off, placed-off, placed-on}
 use borrow.Author.Needs.{needs}
 use Rattle.judging.proofs.judge.Statement.{statement}
 use Rattle.judging.proofs.judge.Tie as tie
@@ -17,8 +17,8 @@ returns-2 : tie.Need-returns-2
 returns-2 c = (
   λ f x w.
       let v = read-here _ _ x _ _ f w in
-      let r = c .before .before .before .before .before .before .before .resolve .ensures _ _ f v in
-      let primary = sym (not-false _ (c .before .before .before .before .before .before .before .before .before .before .if1 .left)) ∙ c .before .before .before .before .before .before .before .before .before .before .before .good-primary .ensures _ _ f v in
+      let r = rowed-resolved _ (c .before .before .before .before .before .before .before .before .before .before .before .args .rows .now) _ _ f v (c .before .before .before .before .before .before .before .before .before .before .before .pre .1) in
+      let primary = sym (not-false _ (c .before .before .before .before .before .if1 .left)) ∙ c .before .before .before .before .before .before .good-primary .ensures _ _ f v in
       refused-by _ _ f x _ _ (placed-off _ _ x _ _ f w primary _ (sym (c .before .before .before .first-fault .ensures f (early _ _ x _ _ f w _ r)) ∙ c .before .p .given .1)),
   refl,
 )
@@ -27,9 +27,9 @@ returns-3 : tie.Need-returns-3
 returns-3 c = (
   λ f x w.
       let v = read-here _ _ x _ _ f w in
-      let r = c .before .before .before .before .before .before .before .before .before .before .before .resolve .ensures _ _ f v in
-      let primary = sym (not-false _ (c .before .before .before .before .before .before .before .before .before .before .before .before .before .before .if1 .left)) ∙ c .before .before .before .before .before .before .before .before .before .before .before .before .before .before .before .good-primary .ensures _ _ f v in
-      let good = sym (c .before .before .before .before .before .before .before .first-fault .ensures f (early _ _ x _ _ f w _ r)) ∙ c .before .before .before .before .before .enum-told .given .1 in
+      let r = rowed-resolved _ (c .before .before .before .before .before .before .before .before .before .before .before .before .before .before .args .rows .now) _ _ f v (c .before .before .before .before .before .before .before .before .before .before .before .before .before .before .pre .1) in
+      let primary = sym (not-false _ (c .before .before .before .before .before .before .before .before .if1 .left)) ∙ c .before .before .before .before .before .before .before .before .before .good-primary .ensures _ _ f v in
+      let good = sym (c .before .before .before .before .before .before .first-fault .ensures f (early _ _ x _ _ f w _ r)) ∙ c .before .before .before .before .enum-told .given .1 in
       placed-on _ _ x _ _ f w primary good _ _ (c .before .before .judge-placed .ensures .0 f x w r (placed-all _ _ f (told-good _ good))),
   c .before .before .judge-placed .ensures .1,
 )
@@ -37,5 +37,4 @@ returns-3 c = (
 pub judge-spec : {M : Type 1} → statement M
 judge-spec =
     tie.close (tie.spec (λ c κs. search needs) (λ c κs. search needs) (search needs) (search needs) returns
-    (search needs) (λ c κs. search needs) (search needs) (λ c κs. search needs) (search needs) (search needs)
-    (search needs) (λ c κs. c .before .before .before .before .before .before .before .before .before .before .before .before .before .before .before .before .pre) (search needs) returns-2 (search needs) returns-3)
+    (λ c κs. search needs) (search needs) (search needs) (λ c κs. c .before .before .before .before .before .before .before .before .before .before .before .pre .0) (search needs) returns-2 (search needs) returns-3)

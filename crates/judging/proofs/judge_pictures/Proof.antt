@@ -6,14 +6,8 @@ use borrow.Author.Needs.{needs}
 use Rattle.judging.proofs.judge_pictures.Statement.{statement}
 use Rattle.judging.proofs.judge_pictures.Tie as tie
 
-by-depth-requires : tie.Need-by-depth-requires
-by-depth-requires c κs = c .before .deepest-of .ensures
-
 returns : tie.Need-returns
-returns c = λ f d. c .by-depth .ensures f d ∙ ap toldJudged (sym (pictures-shallow _ _ f d _ (c .before .before .deepest-of .ensures) (c .before .if1 .taken)))
-
-by-depth-requires-2 : tie.Need-by-depth-requires-2
-by-depth-requires-2 c κs = c .before .before .before .before .before .before .before .deepest-of .ensures
+returns c = λ f d. c .judge-sizes .ensures _ f d ∙ ap toldJudged (sym (pictures-shallow _ _ f d _ (c .before .before .deepest-of .ensures) (c .before .if1 .taken)))
 
 returns-2 : tie.Need-returns-2
 unfolding picturesJudged
@@ -25,10 +19,10 @@ returns-3 c = λ f d. told-off _ _ _ (sym (c .before .before .before .first-faul
 
 returns-4 : tie.Need-returns-4
 unfolding picturesJudged
-returns-4 c = λ f d. c .by-depth2 .ensures f d ∙ ap toldJudged (sym (told-on _ _ (sym (c .before .before .before .first-fault .ensures f d) ∙ c .before .enum-told2 .given .1))) ∙ ap toldJudged (sym (told-on _ _ (sym (c .before .before .before .before .before .before .judge-itself .ensures f d) ∙ c .before .before .before .before .enum-told .given .1)))
+returns-4 c = λ f d. c .judge-sizes2 .ensures _ f d ∙ ap toldJudged (sym (told-on _ _ (sym (c .before .before .before .first-fault .ensures f d) ∙ c .before .enum-told2 .given .1))) ∙ ap toldJudged (sym (told-on _ _ (sym (c .before .before .before .before .before .before .judge-itself .ensures f d) ∙ c .before .before .before .before .enum-told .given .1)))
 
 pub judge-pictures-spec : {M : Type 1} → statement M
 judge-pictures-spec =
-    tie.close (tie.spec (λ c κs. search needs) by-depth-requires returns (λ c κs. search needs) (search needs)
-    (search needs) (λ c κs. search needs) (search needs) (search needs) by-depth-requires-2 returns-2 returns-3
+    tie.close (tie.spec (λ c κs. search needs) (λ c κs. search needs) returns (λ c κs. search needs) (search needs)
+    (search needs) (λ c κs. search needs) (search needs) (search needs) (λ c κs. search needs) returns-2 returns-3
     returns-4)

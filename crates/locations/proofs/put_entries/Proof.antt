@@ -10,19 +10,19 @@ use Rattle.locations.proofs.put_entries.Statement.{statement}
 use Rattle.locations.proofs.put_entries.Tie as tie
 
 abbrev Inv-loop : tie.InvT-loop
-Inv-loop s from count w place table₀ n idat at₀ used₀ hope₀ i₀ table at used hope i = So s from count w place n idat table₀ table at used i
+Inv-loop s from count w place table₀ n slots idat at₀ used₀ hope₀ i₀ table at used hope i = So s from count w place n idat table₀ table at used i
 
 abbrev μ-loop : tie.MeasureT-loop
-μ-loop s from count w place table₀ n idat at₀ used₀ hope₀ i₀ table at used hope i = count - i
+μ-loop s from count w place table₀ n slots idat at₀ used₀ hope₀ i₀ table at used hope i = count - i
 
 loop-holds : tie.Need-loop-holds Inv-loop μ-loop
 loop-holds c =
-    let a = c .before .before .args in
-    so-start (a .s .now) (a .from) (a .count) (a .w) (a .place) (a .n) (a .idat) (a .table .now) (c .before .before .pre .0) (c .before .before .pre .4)
+    let a = c .before .before .before .args in
+    so-start (a .s .now) (a .from) (a .count) (a .w) (a .place) (a .n) (a .idat) (a .table .now) (c .before .before .before .pre .0) (c .before .before .before .pre .4)
 
 put-entry-requires : tie.Need-put-entry-requires Inv-loop μ-loop
 put-entry-requires c κs =
-    let p = c .before .before .before .before .before .pre in
+    let p = c .before .before .before .before .before .before .pre in
     let h = c .before .before .loop .inv in
     let e = h .kept .same-length in
     (h .room, p .1, h .few, p .2, rw e (p .3))
@@ -34,7 +34,7 @@ same-length c =
 returns : tie.Need-returns Inv-loop μ-loop
 unfolding toldLocations
 returns c =
-    let a = c .before .before .before .before .before .before .before .before .before .before .before .args in
+    let a = c .before .before .before .before .before .before .before .before .before .before .before .before .args in
     let l = c .before .before .before .before .before .before .before .before .loop in
     let e = c .before .before .before .before .before .put-entry in
     let u = e .last .1 .1 .1 .1 .0 in
@@ -45,7 +45,7 @@ returns c =
 
 add-used : tie.Need-add-used Inv-loop μ-loop
 add-used c =
-    let a = c .before .before .before .before .before .before .before .before .before .before .before .args in
+    let a = c .before .before .before .before .before .before .before .before .before .before .before .before .args in
     let l = c .before .before .before .before .before .before .before .before .loop in
     let e = c .before .before .before .before .before .put-entry in
     let u = e .last .1 .1 .1 .1 .0 in
@@ -54,7 +54,7 @@ add-used c =
 
 add-hope : tie.Need-add-hope Inv-loop μ-loop
 add-hope c =
-    let a = c .before .before .before .before .before .before .before .before .before .before .before .args in
+    let a = c .before .before .before .before .before .before .before .before .before .before .before .before .args in
     let l = c .before .before .before .before .before .before .before .before .loop in
     let e = c .before .before .before .before .before .put-entry in
     let u = e .last .1 .1 .1 .1 .0 in
@@ -63,8 +63,8 @@ add-hope c =
 
 loop-again : tie.Need-loop-again Inv-loop μ-loop
 loop-again c =
-    let p = c .before .before .before .before .before .before .before .before .before .before .before .pre in
-    let a = c .before .before .before .before .before .before .before .before .before .before .before .args in
+    let p = c .before .before .before .before .before .before .before .before .before .before .before .before .pre in
+    let a = c .before .before .before .before .before .before .before .before .before .before .before .before .args in
     let l = c .before .before .before .before .before .before .before .before .loop in
     let e = c .before .before .before .before .before .put-entry in
     let u = e .last .1 .1 .1 .1 .0 in
@@ -79,7 +79,7 @@ same-length-2 c = c .before .before .loop .inv .kept .same-length
 returns-2 : tie.Need-returns-2 Inv-loop μ-loop
 unfolding toldLocations
 returns-2 c =
-    let a = c .before .before .before .before .before .args in
+    let a = c .before .before .before .before .before .before .args in
     let l = c .before .before .loop in
     let z = so-left (a .s .now) (a .from) (a .count) (a .w) (a .place) (a .n) (a .idat) (a .table .now)
     (l .table) (l .at) (l .used) (l .i) (l .inv) (c .before .loop-test .left) (c .if1 .taken) in
@@ -91,7 +91,7 @@ same-length-3 c = c .before .before .loop .inv .kept .same-length
 returns-3 : tie.Need-returns-3 Inv-loop μ-loop
 unfolding toldLocations
 returns-3 c =
-    let a = c .before .before .before .before .before .args in
+    let a = c .before .before .before .before .before .before .args in
     let l = c .before .before .loop in
     let z = so-done (a .s .now) (a .from) (a .count) (a .w) (a .place) (a .n) (a .idat) (a .table .now)
     (l .table) (l .at) (l .used) (l .i) (l .inv) (c .before .loop-test .left) (c .if1 .left) in

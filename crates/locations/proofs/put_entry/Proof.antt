@@ -9,19 +9,19 @@ use Rattle.locations.proofs.put_entry.Tie as tie
 
 put-rest-requires : tie.Need-put-rest-requires
 put-rest-requires c κs =
-    let a = c .before .before .before .before .before .before .before .before .args in
+    let a = c .before .before .before .before .before .before .before .before .before .args in
     let h = subst (EntryAre (a .table .now) (a .n) (a .w) (a .used) (a .place) (a .s .now) (a .at)) (c .before .before .r2 .given .1) (c .before .before .before .before .read-entry .ensures) in
-    (h .room, c .before .before .before .before .before .before .before .before .pre .1, h .few, omega arith, c .before .before .before .before .before .before .before .before .pre .4)
+    (h .room, c .before .before .before .before .before .before .before .before .before .pre .1, h .few, omega arith, c .before .before .before .before .before .before .before .before .before .pre .4)
 
 returns : tie.Need-returns
 returns c =
-    let a = c .before .before .before .before .before .before .before .args in
+    let a = c .before .before .before .before .before .before .before .before .args in
     let h = subst (EntryAre (a .table .now) (a .n) (a .w) (a .used) (a .place) (a .s .now) (a .at)) (c .before .r .given .1) (c .before .before .before .read-entry .ensures) in
     put-gone (a .table .now) (a .table .now) (a .n) (a .w) (a .used) (a .place) (a .s .now) (a .at) (a .idat) _ refl h
 
 returns-2 : tie.Need-returns-2
 returns-2 c =
-    let a = c .before .before .before .before .before .before .before .before .before .before .before .args in
+    let a = c .before .before .before .before .before .before .before .before .before .before .before .before .args in
     let h = subst (EntryAre (a .table .now) (a .n) (a .w) (a .used) (a .place) (a .s .now) (a .at)) (c .before .before .before .before .before .r2 .given .1) (c .before .before .before .before .before .before .before .read-entry .ensures) in
     let p = c .before .before .put-rest in
     put-are (a .table .now) _ (a .n) (a .w) (a .used) (a .place) (a .s .now) (a .at) (a .idat) _ _ _ h (p .result) (p .ensures)

@@ -9,28 +9,28 @@ use Rattle.locations.proofs.read_entry.Tie as tie
 
 returns : tie.Need-returns
 returns c =
-    let a = c .before .before .before .args in
-    entry-short (a .table .now) (a .n) (a .w) (a .used) (a .place) (a .s .now) (a .at) (c .before .before .before .pre .0) (c .if1 .taken)
+    let a = c .before .before .before .before .args in
+    entry-short (a .table .now) (a .n) (a .w) (a .used) (a .place) (a .s .now) (a .at) (c .before .before .before .before .pre .0) (c .if1 .taken)
 
 returns-2 : tie.Need-returns-2
 returns-2 c =
-    let a = c .before .before .before .before .before .before .before .before .args in
+    let a = c .before .before .before .before .before .before .before .before .before .args in
     let g = subst (RowAre (a .table .now) (a .n) (c .before .before .before .before .be-id .result) (a .place)) (c .before .r .given .1) (c .before .before .before .row-for .ensures) in
-    entry-gone (a .table .now) (a .n) (a .w) (a .used) (a .place) (a .s .now) (a .at) (c .before .before .before .before .before .before .before .before .pre .0) (c .before .before .before .before .before .if1 .left) _ (c .before .before .before .before .be-id .ensures) _ g
+    entry-gone (a .table .now) (a .n) (a .w) (a .used) (a .place) (a .s .now) (a .at) (c .before .before .before .before .before .before .before .before .before .pre .0) (c .before .before .before .before .before .if1 .left) _ (c .before .before .before .before .be-id .ensures) _ g
 
 returns-3 : tie.Need-returns-3
 returns-3 c =
-    let a = c .before .before .before .before .before .before .before .before .before .before .before .before .args in
+    let a = c .before .before .before .before .before .before .before .before .before .before .before .before .before .args in
     let g = subst (RowAre (a .table .now) (a .n) (c .before .before .before .before .before .before .before .before .be-id .result) (a .place)) (c .before .before .before .before .before .r2 .given .1) (c .before .before .before .before .before .before .before .row-for .ensures) in
     let z = subst (RestAre (a .w) (a .used) (a .place) (a .s .now) (a .at + a .w .id)) (c .before .x .given .1) (c .before .before .before .read-rest .ensures) in
-    entry-rest-gone (a .table .now) (a .n) (a .w) (a .used) (a .place) (a .s .now) (a .at) (c .before .before .before .before .before .before .before .before .before .before .before .before .pre .0) (c .before .before .before .before .before .before .before .before .before .if1 .left) _ (c .before .before .before .before .before .before .before .before .be-id .ensures) _ g _ z
+    entry-rest-gone (a .table .now) (a .n) (a .w) (a .used) (a .place) (a .s .now) (a .at) (c .before .before .before .before .before .before .before .before .before .before .before .before .before .pre .0) (c .before .before .before .before .before .before .before .before .before .if1 .left) _ (c .before .before .before .before .before .before .before .before .be-id .ensures) _ g _ z
 
 returns-4 : tie.Need-returns-4
 returns-4 c =
-    let a = c .before .before .before .before .before .before .before .before .before .before .before .before .args in
+    let a = c .before .before .before .before .before .before .before .before .before .before .before .before .before .args in
     let g = subst (RowAre (a .table .now) (a .n) (c .before .before .before .before .before .before .before .before .be-id .result) (a .place)) (c .before .before .before .before .before .r2 .given .1) (c .before .before .before .before .before .before .before .row-for .ensures) in
     let z = subst (RestAre (a .w) (a .used) (a .place) (a .s .now) (a .at + a .w .id)) (c .before .x2 .given .1) (c .before .before .before .read-rest .ensures) in
-    entry-here (a .table .now) (a .n) (a .w) (a .used) (a .place) (a .s .now) (a .at) (c .before .before .before .before .before .before .before .before .before .before .before .before .pre .0) (c .before .before .before .before .before .before .before .before .before .if1 .left) _ (c .before .before .before .before .before .before .before .before .be-id .ensures) _ g _ _ z
+    entry-here (a .table .now) (a .n) (a .w) (a .used) (a .place) (a .s .now) (a .at) (c .before .before .before .before .before .before .before .before .before .before .before .before .before .pre .0) (c .before .before .before .before .before .before .before .before .before .if1 .left) _ (c .before .before .before .before .before .before .before .before .be-id .ensures) _ g _ _ z
 
 pub read-entry-spec : {M : Type 1} → statement M
 read-entry-spec =

@@ -15,28 +15,28 @@ use Rattle.locations.proofs.read_locations.Tie as tie
 
 read-sizes-requires : tie.Need-read-sizes-requires
 read-sizes-requires c κs =
-    let a = c .before .before .before .before .before .before .args in
+    let a = c .before .before .before .before .before .before .before .args in
     (full-here (upto 2) (a .place) (a .s .now) _ _ (sym (c .before .before .before .read-full .ensures) ∙ c .before .h2 .given .1)) .room
 
 put-entries-requires : tie.Need-put-entries-requires
 put-entries-requires c κs =
-    let a = c .before .before .before .before .before .before .before .before .before .before .before .before .before .args in
+    let a = c .before .before .before .before .before .before .before .before .before .before .before .before .before .before .args in
     let v = c .before .before .before .before .before .before .before .before .h2 .given .0 .0 in
     let z = subst (SizesAre (sizes-form v .read (a .place) (drop 4 (a .s .now))) (a .s .now)) (c .before .before .before .before .z2 .given .1) (c .before .before .before .before .before .before .read-sizes .ensures) in
-    let pre = c .before .before .before .before .before .before .before .before .before .before .before .before .before .pre in
+    let pre = c .before .before .before .before .before .before .before .before .before .before .before .before .before .before .pre in
     (omega (arith, z .room, c .before .if1 .taken), z .sized, pre .1, pre .0, pre .2)
 
 put-entries-requires-2 : tie.Need-put-entries-requires-2
 put-entries-requires-2 c κs =
-    let a = c .before .before .before .before .before .before .before .before .before .before .before .before .before .args in
+    let a = c .before .before .before .before .before .before .before .before .before .before .before .before .before .before .args in
     let v = c .before .before .before .before .before .before .before .before .h2 .given .0 .0 in
     let z = subst (SizesAre (sizes-form v .read (a .place) (drop 4 (a .s .now))) (a .s .now)) (c .before .before .before .before .z2 .given .1) (c .before .before .before .before .before .before .read-sizes .ensures) in
-    let pre = c .before .before .before .before .before .before .before .before .before .before .before .before .before .pre in
+    let pre = c .before .before .before .before .before .before .before .before .before .before .before .before .before .before .pre in
     (omega (arith, z .room, four-wide _ (z .sized) (c .before .if1 .left)), z .sized, pre .1, pre .0, pre .2)
 
 returns : tie.Need-returns
 returns c =
-    let a = c .before .before .before .before .before .before .before .before .before .before .before .before .before .before .before .before .args in
+    let a = c .before .before .before .before .before .before .before .before .before .before .before .before .before .before .before .before .before .args in
     let v = c .before .before .before .before .before .before .before .before .before .before .before .h2 .given .0 .0 in
     let z = subst (SizesAre (sizes-form v .read (a .place) (drop 4 (a .s .now))) (a .s .now)) (c .before .before .before .before .before .before .before .z2 .given .1) (c .before .before .before .before .before .before .before .before .before .read-sizes .ensures) in
     let f = full-here (upto 2) (a .place) (a .s .now) _ _ (sym (c .before .before .before .before .before .before .before .before .before .before .before .before .before .read-full .ensures) ∙ c .before .before .before .before .before .before .before .before .before .before .before .h2 .given .1) in
@@ -47,7 +47,7 @@ returns c =
 returns-2 : tie.Need-returns-2
 unfolding toldLocations
 returns-2 c =
-    let a = c .before .before .before .before .before .before .args in
+    let a = c .before .before .before .before .before .before .before .args in
     let f = full-gone (upto 2) (a .place) (a .s .now) _ _ (sym (c .before .before .before .read-full .ensures) ∙ c .before .h .given .1) in
     let e = iloc-gone (idsIn (a .table .now) (a .n)) (a .place) (a .s .now) _ _ f in
     (sym (ap toldLocations e), left-gone (a .s .now) (a .place) (a .n) (a .idat) (a .table .now) _ _ e)
@@ -55,7 +55,7 @@ returns-2 c =
 returns-3 : tie.Need-returns-3
 unfolding toldLocations
 returns-3 c =
-    let a = c .before .before .before .before .before .before .before .before .before .before .args in
+    let a = c .before .before .before .before .before .before .before .before .before .before .before .args in
     let f = full-here (upto 2) (a .place) (a .s .now) _ _ (sym (c .before .before .before .before .before .before .before .read-full .ensures) ∙ c .before .before .before .before .before .h2 .given .1) in
     let v = c .before .before .before .before .before .h2 .given .0 .0 in
     let z = subst (SizesAre (sizes-form v .read (a .place) (drop 4 (a .s .now))) (a .s .now)) (c .before .z .given .1) (c .before .before .before .read-sizes .ensures) in
@@ -64,7 +64,7 @@ returns-3 c =
 
 returns-4 : tie.Need-returns-4
 returns-4 c =
-    let a = c .before .before .before .before .before .before .before .before .before .before .before .before .before .before .before .before .args in
+    let a = c .before .before .before .before .before .before .before .before .before .before .before .before .before .before .before .before .before .args in
     let v = c .before .before .before .before .before .before .before .before .before .before .before .h2 .given .0 .0 in
     let z = subst (SizesAre (sizes-form v .read (a .place) (drop 4 (a .s .now))) (a .s .now)) (c .before .before .before .before .before .before .before .z2 .given .1) (c .before .before .before .before .before .before .before .before .before .read-sizes .ensures) in
     let f = full-here (upto 2) (a .place) (a .s .now) _ _ (sym (c .before .before .before .before .before .before .before .before .before .before .before .before .before .read-full .ensures) ∙ c .before .before .before .before .before .before .before .before .before .before .before .h2 .given .1) in

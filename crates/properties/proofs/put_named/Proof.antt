@@ -21,26 +21,26 @@ returns-2 c =
 
 put-list-requires : tie.Need-put-list-requires
 put-list-requires c κs =
-    let p = c .before .before .before .before .before .before .before .before .before .before .before .before .before .before .pre in
-    let f = found-row (c .before .before .before .before .before .before .before .before .before .before .before .before .before .before .args .table .now) (c .before .before .before .before .before .before .before .before .before .before .before .before .before .before .args .n) (c .before .before .before .before .before .before .before .before .be-id .result) _ _ (c .before .before .before .before .row-of .ensures) (c .before .before .found .given .1) in (omega (arith, p .0, c .before .before .before .before .before .before .before .before .before .if1 .left), p .1, omega arith, p .3, p .4)
+    let p = c .before .before .before .before .before .before .before .before .before .before .before .before .before .pre in
+    let f = found-row (c .before .before .before .before .before .before .before .before .before .before .before .before .before .args .table .now) (c .before .before .before .before .before .before .before .before .before .before .before .before .before .args .n) (c .before .before .before .before .before .before .before .be-id .result) _ _ (c .before .before .before .before .row-of .ensures) (c .before .before .found .given .1) in (omega (arith, p .0, c .before .before .before .before .before .before .before .before .if1 .left), p .1, omega arith, p .3, p .4)
 
 returns-3 : tie.Need-returns-3
 returns-3 c =
-    let a = c .before .before .before .before .before .before .before .before .before .before .before .before .args in
-    λ before total last. entry-unlisted (a .table .now) (a .n) (a .f .most) (a .f .version) (a .f .word) (a .place) (a .s .now) (a .at) (a .above) (a .used) (c .before .before .before .before .before .before .before .before .id-bytes .result) (c .before .before .before .before .before .before .before .before .id-bytes .ensures) (c .before .before .before .before .before .before .before .before .before .before .before .before .pre .0) before total last (c .before .before .before .before .before .before .before .if1 .left) (c .before .before .before .before .before .before .be-id .result) (c .before .before .before .before .before .before .be-id .ensures) (c .before .before .before .before .before .if2 .left) _ (c .before .before .row-of .ensures) (c .enum-told .given .1)
+    let a = c .before .before .before .before .before .before .before .before .before .before .before .args in
+    λ before total last. entry-unlisted (a .table .now) (a .n) (a .f .most) (a .f .version) (a .f .word) (a .place) (a .s .now) (a .at) (a .above) (a .used) (c .before .before .before .before .before .before .before .id-bytes .result) (c .before .before .before .before .before .before .before .id-bytes .ensures) (c .before .before .before .before .before .before .before .before .before .before .before .pre .0) before total last (c .before .before .before .before .before .before .if1 .left) (c .before .before .before .before .before .be-id .result) (c .before .before .before .before .before .be-id .ensures) (c .before .before .before .before .if2 .left) _ (c .before .before .row-of .ensures) (c .enum-told .given .1)
 
 returns-4 : tie.Need-returns-4
 returns-4 c =
-    let a = c .before .before .before .before .before .before .before .before .before .before .before .before .before .before .before .before .before .before .before .before .args in
-    λ before total last. entry-refused (a .table .now) (a .n) (a .f .most) (a .f .version) (a .f .word) (a .place) (a .s .now) (a .at) (a .above) (a .used) (c .before .before .before .before .before .before .before .before .before .before .before .before .before .before .before .before .id-bytes .result) (c .before .before .before .before .before .before .before .before .before .before .before .before .before .before .before .before .id-bytes .ensures) (c .before .before .before .before .before .before .before .before .before .before .before .before .before .before .before .before .before .before .before .before .pre .0) before total last (c .before .before .before .before .before .before .before .before .before .before .before .before .before .before .before .if1 .left) (c .before .before .before .before .before .before .before .before .before .before .before .before .before .before .be-id .result) (c .before .before .before .before .before .before .before .before .before .before .before .before .before .before .be-id .ensures) (c .before .before .before .before .before .before .before .before .before .before .before .before .before .if2 .left) _ _ (c .before .before .before .before .before .before .before .before .before .before .row-of .ensures) (c .before .before .before .before .before .before .before .before .found .given .1) _ _ (c .before .before .before .before .before .put-list .ensures) _ (c .before .p .given .1)
+    let a = c .before .before .before .before .before .before .before .before .before .before .before .before .before .before .before .before .before .before .before .args in
+    λ before total last. entry-refused (a .table .now) (a .n) (a .f .most) (a .f .version) (a .f .word) (a .place) (a .s .now) (a .at) (a .above) (a .used) (c .before .before .before .before .before .before .before .before .before .before .before .before .before .before .before .id-bytes .result) (c .before .before .before .before .before .before .before .before .before .before .before .before .before .before .before .id-bytes .ensures) (c .before .before .before .before .before .before .before .before .before .before .before .before .before .before .before .before .before .before .before .pre .0) before total last (c .before .before .before .before .before .before .before .before .before .before .before .before .before .before .if1 .left) (c .before .before .before .before .before .before .before .before .before .before .before .before .before .be-id .result) (c .before .before .before .before .before .before .before .before .before .before .before .before .before .be-id .ensures) (c .before .before .before .before .before .before .before .before .before .before .before .before .if2 .left) _ _ (c .before .before .before .before .before .before .before .before .before .before .row-of .ensures) (c .before .before .before .before .before .before .before .before .found .given .1) _ _ (c .before .before .before .before .before .put-list .ensures) _ (c .before .p .given .1)
 
 returns-5 : tie.Need-returns-5
 returns-5 c =
-    let a = c .before .before .before .before .before .before .before .before .before .before .before .before .before .before .before .before .before .before .before .before .args in
-    λ before total last. entry-put (a .table .now) (a .n) (a .f .most) (a .f .version) (a .f .word) (a .place) (a .s .now) (a .at) (a .above) (a .used) (c .before .before .before .before .before .before .before .before .before .before .before .before .before .before .before .before .id-bytes .result) (c .before .before .before .before .before .before .before .before .before .before .before .before .before .before .before .before .id-bytes .ensures) (c .before .before .before .before .before .before .before .before .before .before .before .before .before .before .before .before .before .before .before .before .pre .0) before total last (c .before .before .before .before .before .before .before .before .before .before .before .before .before .before .before .if1 .left) (c .before .before .before .before .before .before .before .before .before .before .before .before .before .before .be-id .result) (c .before .before .before .before .before .before .before .before .before .before .before .before .before .before .be-id .ensures) (c .before .before .before .before .before .before .before .before .before .before .before .before .before .if2 .left) _ _ (c .before .before .before .before .before .before .before .before .before .before .row-of .ensures) (c .before .before .before .before .before .before .before .before .found .given .1) _ _ (c .before .before .before .before .before .put-list .ensures) _ _ (c .before .p2 .given .1)
+    let a = c .before .before .before .before .before .before .before .before .before .before .before .before .before .before .before .before .before .before .before .args in
+    λ before total last. entry-put (a .table .now) (a .n) (a .f .most) (a .f .version) (a .f .word) (a .place) (a .s .now) (a .at) (a .above) (a .used) (c .before .before .before .before .before .before .before .before .before .before .before .before .before .before .before .id-bytes .result) (c .before .before .before .before .before .before .before .before .before .before .before .before .before .before .before .id-bytes .ensures) (c .before .before .before .before .before .before .before .before .before .before .before .before .before .before .before .before .before .before .before .pre .0) before total last (c .before .before .before .before .before .before .before .before .before .before .before .before .before .before .if1 .left) (c .before .before .before .before .before .before .before .before .before .before .before .before .before .be-id .result) (c .before .before .before .before .before .before .before .before .before .before .before .before .before .be-id .ensures) (c .before .before .before .before .before .before .before .before .before .before .before .before .if2 .left) _ _ (c .before .before .before .before .before .before .before .before .before .before .row-of .ensures) (c .before .before .before .before .before .before .before .before .found .given .1) _ _ (c .before .before .before .before .before .put-list .ensures) _ _ (c .before .p2 .given .1)
 
 pub put-named-spec : {M : Type 1} → statement M
 put-named-spec =
-    tie.close (tie.spec (search needs) (search needs) returns be-id-requires (search needs) returns-2 (search needs)
-    (search needs) (search needs) (λ c κs. search needs) (search needs) (search needs) (search needs) put-list-requires
+    tie.close (tie.spec (search needs) (search needs) returns be-id-requires (search needs) returns-2
+    (λ c κs. search needs) (search needs) (search needs) (search needs) put-list-requires
     (search needs) (search needs) (search needs) returns-3 (search needs) returns-4 (search needs) returns-5)

@@ -8,48 +8,54 @@ use Rattle.properties.proofs.put_names.Statement.{statement}
 use Rattle.properties.proofs.put_names.Tie as tie
 
 abbrev Inv-loop : tie.InvT-loop
-Inv-loop s from count f place table₀ n hints at₀ used₀ above₀ i₀ table at used above i = NamesSo s from count (f .most) (f .version) (f .word) place n table₀ table at used above i
+Inv-loop s from count f place table₀ n slots at₀ used₀ above₀ hope₀ i₀ table at used above hope i = NamesSo s from count (f .most) (f .version) (f .word) place n table₀ table at used above i
 
 abbrev μ-loop : tie.MeasureT-loop
-μ-loop s from count f place table₀ n hints at₀ used₀ above₀ i₀ table at used above i = count - i
+μ-loop s from count f place table₀ n slots at₀ used₀ above₀ hope₀ i₀ table at used above hope i = count - i
 
 loop-holds : tie.Need-loop-holds Inv-loop μ-loop
 loop-holds c =
-    let a = c .before .before .before .before .args in
-    names-begin (a .s .now) (a .from) (a .count) (a .f .most) (a .f .version) (a .f .word) (a .place) (a .n) (a .table .now) (c .before .before .before .before .pre .0)
+    let a = c .before .before .before .args in
+    names-begin (a .s .now) (a .from) (a .count) (a .f .most) (a .f .version) (a .f .word) (a .place) (a .n) (a .table .now) (c .before .before .before .pre .0)
 
 put-named-requires : tie.Need-put-named-requires Inv-loop μ-loop
 put-named-requires c κs =
-    let l = c .before .before .before .loop in
-    (l .inv .here, c .before .before .before .before .before .before .before .before .pre .1, c .before .before .before .before .before .before .before .before .pre .2, l .inv .few, omega (arith, l .inv .kept .kept .same-length))
+    let l = c .before .before .loop in
+    (l .inv .here, c .before .before .before .before .before .before .pre .1, c .before .before .before .before .before .before .pre .2, l .inv .few, omega (arith, l .inv .kept .kept .same-length))
 
 same-length : tie.Need-same-length Inv-loop μ-loop
-same-length c = c .before .before .before .before .before .put-named .kept .1 .1 .1 .1 .0 ∙ c .before .before .before .before .before .before .before .before .before .loop .inv .kept .kept .same-length
+same-length c = c .before .before .before .before .before .put-named .kept .1 .1 .1 .1 .0 ∙ c .before .before .before .before .before .before .before .before .loop .inv .kept .kept .same-length
 
 returns : tie.Need-returns Inv-loop μ-loop
 returns c =
-    let a = c .before .before .before .before .before .before .before .before .before .before .before .before .before .before .args in
-    let l = c .before .before .before .before .before .before .before .before .before .loop in
-    names-refused (a .s .now) (a .from) (a .count) (a .f .most) (a .f .version) (a .f .word) (a .place) (a .n) (a .table .now) (l .table) (l .at) (l .used) (l .above) (l .i) (l .inv) (c .before .before .before .before .before .before .before .before .loop-test .taken) (c .before .before .before .before .before .before .before .before .before .before .before .before .before .before .pre .2) _ _ (c .before .before .before .before .before .put-named .ensures (l .inv .entries) (l .inv .total) (l .inv .last)) _ (c .before .t .given .1)
+    let a = c .before .before .before .before .before .before .before .before .before .before .before .before .args in
+    let l = c .before .before .before .before .before .before .before .before .loop in
+    names-refused (a .s .now) (a .from) (a .count) (a .f .most) (a .f .version) (a .f .word) (a .place) (a .n) (a .table .now) (l .table) (l .at) (l .used) (l .above) (l .i) (l .inv) (c .before .before .before .before .before .before .before .loop-test .taken) (c .before .before .before .before .before .before .before .before .before .before .before .before .pre .2) _ _ (c .before .before .before .before .before .put-named .ensures (l .inv .entries) (l .inv .total) (l .inv .last)) _ (c .before .t .given .1)
 
 add-used : tie.Need-add-used Inv-loop μ-loop
 add-used c =
-    let a = c .before .before .before .before .before .before .before .before .before .before .before .before .before .before .args in
-    let l = c .before .before .before .before .before .before .before .before .before .loop in
-    let b = put-here (a .s .now) (a .from) (a .count) (a .f .most) (a .f .version) (a .f .word) (a .place) (a .n) (a .table .now) (l .table) (l .at) (l .used) (l .above) (l .i) (l .inv) (c .before .before .before .before .before .before .before .before .loop-test .taken) (c .before .before .before .before .before .before .before .before .before .before .before .before .before .before .pre .2) _ _ (c .before .before .before .before .before .put-named .ensures (l .inv .entries) (l .inv .total) (l .inv .last)) _ _ _ _ (c .before .t2 .given .1) in omega (arith, b .fits)
+    let a = c .before .before .before .before .before .before .before .before .before .before .before .before .args in
+    let l = c .before .before .before .before .before .before .before .before .loop in
+    let b = put-here (a .s .now) (a .from) (a .count) (a .f .most) (a .f .version) (a .f .word) (a .place) (a .n) (a .table .now) (l .table) (l .at) (l .used) (l .above) (l .i) (l .inv) (c .before .before .before .before .before .before .before .loop-test .taken) (c .before .before .before .before .before .before .before .before .before .before .before .before .pre .2) _ _ (c .before .before .before .before .before .put-named .ensures (l .inv .entries) (l .inv .total) (l .inv .last)) _ _ _ _ (c .before .t2 .given .1) in omega (arith, b .fits)
+
+add-hope : tie.Need-add-hope Inv-loop μ-loop
+add-hope c =
+    let a = c .before .before .before .before .before .before .before .before .before .before .before .before .args in
+    let l = c .before .before .before .before .before .before .before .before .loop in
+    let b = put-here (a .s .now) (a .from) (a .count) (a .f .most) (a .f .version) (a .f .word) (a .place) (a .n) (a .table .now) (l .table) (l .at) (l .used) (l .above) (l .i) (l .inv) (c .before .before .before .before .before .before .before .loop-test .taken) (c .before .before .before .before .before .before .before .before .before .before .before .before .pre .2) _ _ (c .before .before .before .before .before .put-named .ensures (l .inv .entries) (l .inv .total) (l .inv .last)) _ _ _ _ (c .before .t2 .given .1) in omega (arith, b .found .0)
 
 loop-again : tie.Need-loop-again Inv-loop μ-loop
 loop-again c =
-    let a = c .before .before .before .before .before .before .before .before .before .before .before .before .before .before .args in
-    let l = c .before .before .before .before .before .before .before .before .before .loop in
-    names-more (a .s .now) (a .from) (a .count) (a .f .most) (a .f .version) (a .f .word) (a .place) (a .n) (a .table .now) (l .table) (l .at) (l .used) (l .above) (l .i) (l .inv) (c .before .before .before .before .before .before .before .before .loop-test .taken) (c .before .before .before .before .before .before .before .before .before .before .before .before .before .before .pre .2) _ _ (c .before .before .before .before .before .put-named .ensures (l .inv .entries) (l .inv .total) (l .inv .last)) _ _ _ _ (c .before .t2 .given .1)
+    let a = c .before .before .before .before .before .before .before .before .before .before .before .before .args in
+    let l = c .before .before .before .before .before .before .before .before .loop in
+    names-more (a .s .now) (a .from) (a .count) (a .f .most) (a .f .version) (a .f .word) (a .place) (a .n) (a .table .now) (l .table) (l .at) (l .used) (l .above) (l .i) (l .inv) (c .before .before .before .before .before .before .before .loop-test .taken) (c .before .before .before .before .before .before .before .before .before .before .before .before .pre .2) _ _ (c .before .before .before .before .before .put-named .ensures (l .inv .entries) (l .inv .total) (l .inv .last)) _ _ _ _ (c .before .t2 .given .1)
 
 same-length-2 : tie.Need-same-length-2 Inv-loop μ-loop
 same-length-2 c = c .before .before .loop .inv .kept .kept .same-length
 
 returns-2 : tie.Need-returns-2 Inv-loop μ-loop
 returns-2 c =
-    let a = c .before .before .before .before .before .before .before .args in
+    let a = c .before .before .before .before .before .before .args in
     let l = c .before .before .loop in
     names-left (a .s .now) (a .from) (a .count) (a .f .most) (a .f .version) (a .f .word) (a .place) (a .n) (a .table .now) (l .table) (l .at) (l .used) (l .above) (l .i) (l .inv) (c .before .loop-test .left) (c .if1 .taken)
 
@@ -58,12 +64,11 @@ same-length-3 c = c .before .before .loop .inv .kept .kept .same-length
 
 returns-3 : tie.Need-returns-3 Inv-loop μ-loop
 returns-3 c =
-    let a = c .before .before .before .before .before .before .before .args in
+    let a = c .before .before .before .before .before .before .args in
     let l = c .before .before .loop in
     names-done (a .s .now) (a .from) (a .count) (a .f .most) (a .f .version) (a .f .word) (a .place) (a .n) (a .table .now) (l .table) (l .at) (l .used) (l .above) (l .i) (l .inv) (c .before .loop-test .left) (c .if1 .left)
 
 pub put-names-spec : {M : Type 1} → statement M
 put-names-spec =
-    tie.close (tie.spec Inv-loop μ-loop (λ c κs. (c .before .before .before .pre .2, c .before .before .before .pre .3)) loop-holds
-    (search needs) put-named-requires (search needs) same-length returns (search needs) add-used (search needs)
-    (search needs) (search needs) (λ c. omega arith) loop-again same-length-2 returns-2 same-length-3 returns-3)
+    tie.close (tie.spec Inv-loop μ-loop loop-holds put-named-requires (search needs) same-length returns (search needs) add-used
+    (search needs) (search needs) add-hope (search needs) (λ c. omega arith) loop-again same-length-2 returns-2 same-length-3 returns-3)

@@ -3,22 +3,23 @@ use mathlib.Core.Path.{sym, _∙_}
 use Rattle.records.proofs.KeptLaws.{kept-same}
 use Rattle.reading.proofs.TopStage.{walk-refused-after, missing-after, whole-standing, whole-after}
 use borrow.Author.Needs.{needs}
+use Rattle.reading.proofs.RowedLaws.{no-reading}
 use Rattle.reading.proofs.read_children.Statement.{statement}
 use Rattle.reading.proofs.read_children.Tie as tie
 
 returns : tie.Need-returns
-returns c = let a = c .before .before .before .before .before .before .before .before .args in let q = c .before .before .before .before .before .walk-children in let m = c .before .is-missing in (λ x w. missing-after (a .place) (a .at) (a .total) (a .s .now) (q .result .spots) (sym (q .ensures .0) ∙ c .before .before .enum-told .given .1) (q .ensures .1) _ (m .ensures) (c .if1 .taken) x _, kept-same _)
+returns c = let a = c .before .before .before .before .before .before .before .before .before .args in let q = c .before .before .before .before .before .walk-children in let m = c .before .is-missing in (λ x w. missing-after (a .place) (a .at) (a .total) (a .s .now) (q .result .spots) (sym (q .ensures .0) ∙ c .before .before .enum-told .given .1) (q .ensures .1) _ (m .ensures) (c .if1 .taken) x _, (kept-same _, λ i e q. no-reading _ i e q))
 
 read-contents-requires : tie.Need-read-contents-requires
-read-contents-requires c κs = let a = c .before .before .before .before .before .before .before .before .before .args in let q = c .before .before .before .before .before .before .walk-children in let m = c .before .before .is-missing in let k = c .before .before .before .before .before .before .before .before .before .pre in (whole-standing (a .place) (a .at) (a .total) (a .s .now) (q .result .spots) (sym (q .ensures .0) ∙ c .before .before .before .enum-told .given .1) (q .ensures .1) _ (m .ensures) (c .before .if1 .left), k .0, k .1, k .2)
+read-contents-requires c κs = let a = c .before .before .before .before .before .before .before .before .before .before .before .args in let q = c .before .before .before .before .before .before .before .walk-children in let m = c .before .before .before .is-missing in let k = c .before .before .before .before .before .before .before .before .before .before .before .pre in (whole-standing (a .place) (a .at) (a .total) (a .s .now) (q .result .spots) (sym (q .ensures .0) ∙ c .before .before .before .before .enum-told .given .1) (q .ensures .1) _ (m .ensures) (c .before .before .if1 .left), k .0, k .1, k .2, k .3)
 
 returns-2 : tie.Need-returns-2
-returns-2 c = let a = c .before .before .before .before .before .before .before .args in (λ x w. walk-refused-after (a .place) (a .at) (a .total) (a .s .now) _ x _ (sym (c .before .before .before .before .walk-children .ensures .0) ∙ c .before .a .given .1), kept-same _)
+returns-2 c = let a = c .before .before .before .before .before .before .before .before .args in (λ x w. walk-refused-after (a .place) (a .at) (a .total) (a .s .now) _ x _ (sym (c .before .before .before .before .walk-children .ensures .0) ∙ c .before .a .given .1), (kept-same _, λ i e q. no-reading _ i e q))
 
 returns-3 : tie.Need-returns-3
-returns-3 c = let a = c .before .before .before .before .before .before .before .before .before .before .before .before .args in let q = c .before .before .before .before .before .before .before .before .before .walk-children in let m = c .before .before .before .before .before .is-missing in (λ x w. whole-after (a .place) (a .at) (a .total) (a .s .now) (q .result .spots) (sym (q .ensures .0) ∙ c .before .before .before .before .before .before .enum-told .given .1) (q .ensures .1) _ (m .ensures) (c .before .before .before .before .if1 .left) _ x _ (c .before .before .read-contents .ensures .0 x w), c .before .before .read-contents .ensures .1)
+returns-3 c = let a = c .before .before .before .before .before .before .before .before .before .before .before .before .before .before .before .before .args in let q = c .before .before .before .before .before .before .before .before .before .before .before .before .walk-children in let m = c .before .before .before .before .before .before .before .before .is-missing in (λ x w. whole-after (a .place) (a .at) (a .total) (a .s .now) (q .result .spots) (sym (q .ensures .0) ∙ c .before .before .before .before .before .before .before .before .before .enum-told .given .1) (q .ensures .1) _ (m .ensures) (c .before .before .before .before .before .before .before .if1 .left) _ x _ (c .before .before .before .before .read-contents .ensures .0 x w), c .before .before .before .before .read-contents .ensures .1)
 
 pub read-children-spec : {M : Type 1} → statement M
 read-children-spec =
     tie.close (tie.spec (λ c κs. search needs) (search needs) (search needs) (search needs) returns read-contents-requires
-    returns-2 (search needs) returns-3)
+    returns-2 (search needs) (search needs) returns-3)

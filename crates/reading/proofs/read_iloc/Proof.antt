@@ -5,48 +5,49 @@ use mathlib.Core.Path.{refl, sym, _∙_}
 use Rattle.records.proofs.KeptLaws.{kept-on}
 use Rattle.reading.proofs.StageLaws.{after-same}
 use Rattle.reading.proofs.NextLaws.{iloc-within, unplaced, iloc-gone, iloc-on}
+use Rattle.reading.proofs.RowedLaws.{no-reading}
 use Rattle.reading.proofs.read_iloc.Statement.{statement}
 use Rattle.reading.proofs.read_iloc.Tie as tie
 
 idat-at-requires : tie.Need-idat-at-requires
-idat-at-requires c κs = (c .before .before .before .args .s .now, c .before .before .before .pre .0, c .before .before .before .pre .1)
+idat-at-requires c κs = (c .before .before .before .before .before .args .s .now, c .before .before .before .before .before .pre .0, c .before .before .before .before .before .pre .1)
 
 sub-read-locations : tie.Need-sub-read-locations
-sub-read-locations c = let h = iloc-within (c .before .before .before .before .args .s .now) (c .before .before .before .before .args .at) _ (c .before .before .before .before .pre .0) (c .before .before .before .before .pre .1) in omega arith
+sub-read-locations c = let h = iloc-within (c .before .before .before .before .before .before .args .s .now) (c .before .before .before .before .before .before .args .at) _ (c .before .before .before .before .before .before .pre .0) (c .before .before .before .before .before .before .pre .1) in omega arith
 
 part-read-locations-start : tie.Need-part-read-locations-start
-part-read-locations-start c = let h = iloc-within (c .before .before .before .before .args .s .now) (c .before .before .before .before .args .at) _ (c .before .before .before .before .pre .0) (c .before .before .before .before .pre .1) in omega arith
+part-read-locations-start c = let h = iloc-within (c .before .before .before .before .before .before .args .s .now) (c .before .before .before .before .before .before .args .at) _ (c .before .before .before .before .before .before .pre .0) (c .before .before .before .before .before .before .pre .1) in omega arith
 
 part-read-locations-end : tie.Need-part-read-locations-end
-part-read-locations-end c = let h = iloc-within (c .before .before .before .before .args .s .now) (c .before .before .before .before .args .at) _ (c .before .before .before .before .pre .0) (c .before .before .before .before .pre .1) in omega arith
+part-read-locations-end c = let h = iloc-within (c .before .before .before .before .before .before .args .s .now) (c .before .before .before .before .before .before .args .at) _ (c .before .before .before .before .before .before .pre .0) (c .before .before .before .before .before .before .pre .1) in omega arith
 
 add-read-locations : tie.Need-add-read-locations
-add-read-locations c = let h = iloc-within (c .before .before .before .before .before .args .s .now) (c .before .before .before .before .before .args .at) _ (c .before .before .before .before .before .pre .0) (c .before .before .before .before .before .pre .1) in omega arith
+add-read-locations c = let h = iloc-within (c .before .before .before .before .before .before .before .args .s .now) (c .before .before .before .before .before .before .before .args .at) _ (c .before .before .before .before .before .before .before .pre .0) (c .before .before .before .before .before .before .before .pre .1) in omega arith
 
 read-locations-requires : tie.Need-read-locations-requires
 read-locations-requires c κs =
-    let a = c .before .before .before .before .before .before .args in
-    let p = c .before .before .before .before .before .before .pre in
-    let k = p .3 .2 .ready in (p .2, omega (arith, k .count, k .bounded .few-items), unplaced (a .s .now) (a .at) _ (p .0) (a .n) (p .3 .0) (p .3 .1) _ (p .3 .2))
+    let a = c .before .before .before .before .before .before .before .before .args in
+    let p = c .before .before .before .before .before .before .before .before .pre in
+    let k = p .4 .2 .ready in (p .2, omega (arith, k .count, k .bounded .few-items), unplaced (a .s .now) (a .at) _ (p .0) (a .n) (p .4 .0) (p .4 .1) _ (p .4 .2))
 
 read-iprp-requires : tie.Need-read-iprp-requires
 read-iprp-requires c κs =
-    let a = c .before .before .before .before .before .before .before .before .before .before .before .before .before .args in
-    let p = c .before .before .before .before .before .before .before .before .before .before .before .before .before .pre in
-    let o = iloc-on (a .s .now) (a .at) _ (p .0) (a .n) (p .3 .0) (p .3 .1) _ (p .3 .2) _ refl _ (sym (c .before .before .before .before .before .before .read-locations .ensures .0) ∙ c .before .before .t2 .given .1) _ (c .before .before .before .before .before .before .before .before .before .idat-at .ensures _ (p .0)) _ (c .before .before .before .before .before .before .read-locations .ensures .1) 0 in (p .0, p .1, omega (arith, c .before .before .before .before .before .before .read-locations .ensures .1 .kept .same-length, p .2), ((p .3 .0), o .0, (p .3 .1), o .1, o .2))
+    let a = c .before .before .before .before .before .before .before .before .before .before .before .before .before .before .before .before .args in
+    let p = c .before .before .before .before .before .before .before .before .before .before .before .before .before .before .before .before .pre in
+    let o = iloc-on (a .s .now) (a .at) _ (p .0) (a .n) (p .4 .0) (p .4 .1) _ (p .4 .2) _ refl _ (sym (c .before .before .before .before .before .before .before .read-locations .ensures .0) ∙ c .before .before .before .t2 .given .1) _ (c .before .before .before .before .before .before .before .before .before .before .idat-at .ensures _ (p .0)) _ (c .before .before .before .before .before .before .before .read-locations .ensures .1) 0 in (p .0, p .1, omega (arith, c .before .before .before .before .before .before .before .read-locations .ensures .1 .kept .same-length, p .2), p .3, ((p .4 .0), o .0, (p .4 .1), o .1, o .2))
 
 returns : tie.Need-returns
 returns c =
-    let a = c .before .before .before .before .before .before .before .before .before .before .before .before .args in
-    ((λ is x b. iloc-gone (a .s .now) (a .at) _ (c .before .before .before .before .before .before .before .before .before .before .before .before .pre .0) (a .n) is x _ b _ refl (a .total) (a .primary .0) _ (sym (c .before .before .before .before .before .read-locations .ensures .0) ∙ c .before .t .given .1) _), c .before .before .before .before .before .read-locations .ensures .1 .kept)
+    let a = c .before .before .before .before .before .before .before .before .before .before .before .before .before .before .args in
+    ((λ is x b. iloc-gone (a .s .now) (a .at) _ (c .before .before .before .before .before .before .before .before .before .before .before .before .before .before .pre .0) (a .n) is x _ b _ refl (a .total) (a .primary .0) _ (sym (c .before .before .before .before .before .read-locations .ensures .0) ∙ c .before .t .given .1) _), (c .before .before .before .before .before .read-locations .ensures .1 .kept, λ i e q. no-reading _ i e q))
 
 returns-2 : tie.Need-returns-2
 returns-2 c =
-    let a = c .before .before .before .before .before .before .before .before .before .before .before .before .before .before .before .before .args in
-    ((λ is x b. let o = iloc-on (a .s .now) (a .at) _ (c .before .before .before .before .before .before .before .before .before .before .before .before .before .before .before .before .pre .0) (a .n) is x _ b _ refl _ (sym (c .before .before .before .before .before .before .before .before .before .read-locations .ensures .0) ∙ c .before .before .before .before .before .t2 .given .1) _ (c .before .before .before .before .before .before .before .before .before .before .before .before .idat-at .ensures _ (c .before .before .before .before .before .before .before .before .before .before .before .before .before .before .before .before .pre .0)) _ (c .before .before .before .before .before .before .before .before .before .read-locations .ensures .1) (a .primary .0) in after-same (a .s .now) (a .at) (a .total) _ _ _ x _ (o .3) (c .before .before .read-iprp .ensures .0 is (o .0) x (o .1) (o .2))), kept-on _ _ _ (c .before .before .before .before .before .before .before .before .before .read-locations .ensures .1 .kept) (c .before .before .read-iprp .ensures .1))
+    let a = c .before .before .before .before .before .before .before .before .before .before .before .before .before .before .before .before .before .before .before .before .before .args in
+    ((λ is x b. let o = iloc-on (a .s .now) (a .at) _ (c .before .before .before .before .before .before .before .before .before .before .before .before .before .before .before .before .before .before .before .before .before .pre .0) (a .n) is x _ b _ refl _ (sym (c .before .before .before .before .before .before .before .before .before .before .before .before .read-locations .ensures .0) ∙ c .before .before .before .before .before .before .before .before .t2 .given .1) _ (c .before .before .before .before .before .before .before .before .before .before .before .before .before .before .before .idat-at .ensures _ (c .before .before .before .before .before .before .before .before .before .before .before .before .before .before .before .before .before .before .before .before .before .pre .0)) _ (c .before .before .before .before .before .before .before .before .before .before .before .before .read-locations .ensures .1) (a .primary .0) in after-same (a .s .now) (a .at) (a .total) _ _ _ x _ (o .3) (c .before .before .before .before .read-iprp .ensures .0 is (o .0) x (o .1) (o .2))), (kept-on _ _ _ (c .before .before .before .before .before .before .before .before .before .before .before .before .read-locations .ensures .1 .kept) (c .before .before .before .before .read-iprp .ensures .1 .0), c .before .before .before .before .read-iprp .ensures .1 .1))
 
 pub read-iloc-spec : {M : Type 1} → statement M
 read-iloc-spec =
     tie.close (tie.spec (search needs) idat-at-requires sub-read-locations part-read-locations-start
     part-read-locations-end add-read-locations read-locations-requires (search needs) (search needs)
-    read-iprp-requires (search needs) returns (search needs) returns-2)
+    read-iprp-requires (search needs) returns (search needs) (search needs) returns-2)

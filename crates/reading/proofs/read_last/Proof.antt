@@ -5,66 +5,70 @@ use mathlib.Core.Path.{refl, sym, _∙_}
 use Rattle.records.proofs.KeptLaws.{kept-on}
 use Rattle.reading.proofs.ChainLaws.{ids-distinct, none-derived}
 use Rattle.reading.proofs.LastLaws.{iref-within, part-fits, head-kept, counts-few, last-none, last-gone, last-few, last-read}
+use Rattle.reading.proofs.RowedLaws.{no-reading, none-rowed, head-rowed}
 use Rattle.reading.proofs.read_last.Statement.{statement}
 use Rattle.reading.proofs.read_last.Tie as tie
 
 put-head-requires : tie.Need-put-head-requires
 put-head-requires c κs =
-    let a = c .before .before .before .before .before .args in
-    let p = c .before .before .before .before .before .pre in
-    let h = counts-few (a .s .now) (a .at) (a .c) (p .3 .0) (p .3 .1) (a .table .now) (p .3 .2) in (p .2, h .0, h .1, h .2, h .3, h .4)
+    let a = c .before .before .before .before .before .before .before .args in
+    let p = c .before .before .before .before .before .before .before .pre in
+    let h = counts-few (a .s .now) (a .at) (a .c) (p .4 .0) (p .4 .1) (a .table .now) (p .4 .2) in (p .2, h .0, h .1, h .2, h .3, h .4)
 
 found-idat-requires : tie.Need-found-idat-requires
-found-idat-requires c κs = (c .before .before .before .before .before .before .before .before .args .s .now, c .before .before .before .before .before .before .before .before .pre .0, c .before .before .before .before .before .before .before .before .pre .1)
+found-idat-requires c κs = (c .before .before .before .before .before .before .before .before .before .before .args .s .now, c .before .before .before .before .before .before .before .before .before .before .pre .0, c .before .before .before .before .before .before .before .before .before .before .pre .1)
 
 returns : tie.Need-returns
 returns c =
-    let a = c .before .before .before .before .before .before .before .before .before .args in
-    ((λ f x l. last-none (a .s .now) (a .at) (a .total) (a .primary .0) _ (c .before .before .before .before .before .before .before .before .before .pre .0) (a .c) f x _ l (c .before .before .before .before .before .if1 .taken) _ (c .before .before .before .put-head .ensures) _ (c .found-idat .ensures _ (c .before .before .before .before .before .before .before .before .before .pre .0))), head-kept _ _ _ _ _ _ _ _ _ _ (c .before .before .before .put-head .ensures))
+    let a = c .before .before .before .before .before .before .before .before .before .before .before .args in
+    let p = c .before .before .before .before .before .before .before .before .before .before .before .pre in
+    ((λ f x l. last-none (a .s .now) (a .at) (a .total) (a .primary .0) _ (c .before .before .before .before .before .before .before .before .before .before .before .pre .0) (a .c) f x _ l (c .before .before .before .before .before .if1 .taken) _ (c .before .before .before .put-head .ensures) _ (c .found-idat .ensures _ (c .before .before .before .before .before .before .before .before .before .before .before .pre .0))), (head-kept _ _ _ _ _ _ _ _ _ _ (c .before .before .before .put-head .ensures), λ i e q. head-rowed (a .table .now) _ (a .rows .now) _ _ _ _ _ _ _ _ (c .before .before .before .put-head .ensures) (p .2) (none-rowed (a .c .items) (a .c .targets) (a .table .now) (a .rows .now) (p .4 .2 .targets))))
+
+add-place : tie.Need-add-place
+add-place c = let h = iref-within (c .before .before .before .before .before .before .args .s .now) (c .before .before .before .before .before .before .args .at) _ (c .before .before .before .before .before .before .pre .0) (c .before .before .before .before .before .before .pre .1) (c .if1 .left) in omega arith
+
+add-base : tie.Need-add-base
+add-base c = let h = iref-within (c .before .before .before .before .before .before .args .s .now) (c .before .before .before .before .before .before .args .at) _ (c .before .before .before .before .before .before .pre .0) (c .before .before .before .before .before .before .pre .1) (c .if1 .left) in omega arith
 
 sub-read-references : tie.Need-sub-read-references
-sub-read-references c = let h = iref-within (c .before .before .before .before .args .s .now) (c .before .before .before .before .args .at) _ (c .before .before .before .before .pre .0) (c .before .before .before .before .pre .1) (c .if1 .left) in omega arith
+sub-read-references c = let h = iref-within (c .before .before .before .before .before .before .args .s .now) (c .before .before .before .before .before .before .args .at) _ (c .before .before .before .before .before .before .pre .0) (c .before .before .before .before .before .before .pre .1) (c .if1 .left) in omega arith
 
 part-read-references-start : tie.Need-part-read-references-start
-part-read-references-start c = let h = iref-within (c .before .before .before .before .args .s .now) (c .before .before .before .before .args .at) _ (c .before .before .before .before .pre .0) (c .before .before .before .before .pre .1) (c .if1 .left) in omega arith
+part-read-references-start c = let h = iref-within (c .before .before .before .before .before .before .args .s .now) (c .before .before .before .before .before .before .args .at) _ (c .before .before .before .before .before .before .pre .0) (c .before .before .before .before .before .before .pre .1) (c .if1 .left) in omega arith
 
 part-read-references-end : tie.Need-part-read-references-end
-part-read-references-end c = let h = iref-within (c .before .before .before .before .args .s .now) (c .before .before .before .before .args .at) _ (c .before .before .before .before .pre .0) (c .before .before .before .before .pre .1) (c .if1 .left) in omega arith
-
-add-read-references : tie.Need-add-read-references
-add-read-references c = let h = iref-within (c .before .before .before .before .before .args .s .now) (c .before .before .before .before .before .args .at) _ (c .before .before .before .before .before .pre .0) (c .before .before .before .before .before .pre .1) (c .before .if1 .left) in omega arith
-
-add-read-references-2 : tie.Need-add-read-references-2
-add-read-references-2 c = let h = iref-within (c .before .before .before .before .before .args .s .now) (c .before .before .before .before .before .args .at) _ (c .before .before .before .before .before .pre .0) (c .before .before .before .before .before .pre .1) (c .before .if1 .left) in omega arith
+part-read-references-end c = let h = iref-within (c .before .before .before .before .before .before .args .s .now) (c .before .before .before .before .before .before .args .at) _ (c .before .before .before .before .before .before .pre .0) (c .before .before .before .before .before .before .pre .1) (c .if1 .left) in omega arith
 
 read-references-requires : tie.Need-read-references-requires
 read-references-requires c κs =
-    let a = c .before .before .before .before .before .before .args in
-    let p = c .before .before .before .before .before .before .pre in
-    let h = iref-within (a .s .now) (a .at) _ (p .0) (p .1) (c .before .before .if1 .left) in let k = counts-few (a .s .now) (a .at) (a .c) (p .3 .0) (p .3 .1) (a .table .now) (p .3 .2) in (((p .2), k .0, part-fits (a .s .now) (a .at) _ (p .1) h), (ids-distinct (a .s .now) (a .at) (a .c .items) (p .3 .0) (p .3 .1) (a .table .now) (p .3 .2 .before), none-derived (a .s .now) (a .at) (a .c .items) (p .3 .0) (p .3 .1) (a .table .now) (p .3 .2 .before) (p .3 .2 .none)))
+    let a = c .before .before .before .before .before .before .before .before .before .args in
+    let p = c .before .before .before .before .before .before .before .before .before .pre in
+    let h = iref-within (a .s .now) (a .at) _ (p .0) (p .1) (c .before .before .before .if1 .left) in let k = counts-few (a .s .now) (a .at) (a .c) (p .4 .0) (p .4 .1) (a .table .now) (p .4 .2) in ((p .2, p .3, k .0, part-fits (a .s .now) (a .at) _ (p .1) h), (ids-distinct (a .s .now) (a .at) (a .c .items) (p .4 .0) (p .4 .1) (a .table .now) (p .4 .2 .before), none-derived (a .s .now) (a .at) (a .c .items) (p .4 .0) (p .4 .1) (a .table .now) (p .4 .2 .before) (p .4 .2 .none)))
 
 put-head-requires-2 : tie.Need-put-head-requires-2
 put-head-requires-2 c κs =
-    let a = c .before .before .before .before .before .before .before .before .before .before .before .before .before .args in
-    let p = c .before .before .before .before .before .before .before .before .before .before .before .before .before .pre in
-    let h = counts-few (a .s .now) (a .at) (a .c) (p .3 .0) (p .3 .1) (a .table .now) (p .3 .2) in let k = last-few (a .s .now) (a .at) (a .total) (a .primary .0) _ (p .0) (a .c) (p .3 .0) (p .3 .1) _ (p .3 .2) (c .before .before .before .before .before .before .before .before .before .if1 .left) _ refl _ (sym (c .before .before .before .before .before .before .read-references .ensures .0) ∙ c .before .before .t2 .given .1) in (omega (arith, c .before .before .before .before .before .before .read-references .ensures .1 .kept .same-length, p .2), h .0, h .1, h .2, k, h .4)
+    let a = c .before .before .before .before .before .before .before .before .before .before .before .before .before .before .before .before .before .before .args in
+    let p = c .before .before .before .before .before .before .before .before .before .before .before .before .before .before .before .before .before .before .pre in
+    let h = counts-few (a .s .now) (a .at) (a .c) (p .4 .0) (p .4 .1) (a .table .now) (p .4 .2) in let k = last-few (a .s .now) (a .at) (a .total) (a .primary .0) _ (p .0) (a .c) (p .4 .0) (p .4 .1) _ (p .4 .2) (c .before .before .before .before .before .before .before .before .before .before .before .before .if1 .left) _ refl _ (sym (c .before .before .before .before .before .before .before .before .read-references .ensures .0) ∙ c .before .before .t2 .given .1) in (omega (arith, c .before .before .before .before .before .before .before .before .read-references .ensures .1 .0 .kept .same-length, p .2), h .0, h .1, h .2, k, h .4)
 
 found-idat-requires-2 : tie.Need-found-idat-requires-2
-found-idat-requires-2 c κs = (c .before .before .before .before .before .before .before .before .before .before .before .before .before .before .before .before .args .s .now, c .before .before .before .before .before .before .before .before .before .before .before .before .before .before .before .before .pre .0, c .before .before .before .before .before .before .before .before .before .before .before .before .before .before .before .before .pre .1)
+found-idat-requires-2 c κs = (c .before .before .before .before .before .before .before .before .before .before .before .before .before .before .before .before .before .before .before .before .before .args .s .now, c .before .before .before .before .before .before .before .before .before .before .before .before .before .before .before .before .before .before .before .before .before .pre .0, c .before .before .before .before .before .before .before .before .before .before .before .before .before .before .before .before .before .before .before .before .before .pre .1)
 
 returns-2 : tie.Need-returns-2
 returns-2 c =
-    let a = c .before .before .before .before .before .before .before .before .before .before .before .before .args in
-    ((λ f x l. last-gone (a .s .now) (a .at) (a .total) (a .primary .0) _ (c .before .before .before .before .before .before .before .before .before .before .before .before .pre .0) (a .c) f x _ l (c .before .before .before .before .before .before .before .before .if1 .left) _ refl _ (sym (c .before .before .before .before .before .read-references .ensures .0) ∙ c .before .t .given .1) _), c .before .before .before .before .before .read-references .ensures .1 .kept)
+    let a = c .before .before .before .before .before .before .before .before .before .before .before .before .before .before .before .before .before .args in
+    ((λ f x l. last-gone (a .s .now) (a .at) (a .total) (a .primary .0) _ (c .before .before .before .before .before .before .before .before .before .before .before .before .before .before .before .before .before .pre .0) (a .c) f x _ l (c .before .before .before .before .before .before .before .before .before .before .before .if1 .left) _ refl _ (sym (c .before .before .before .before .before .before .before .read-references .ensures .0) ∙ c .before .t .given .1) _), (c .before .before .before .before .before .before .before .read-references .ensures .1 .0 .kept, λ i e q. no-reading _ i e q))
 
 returns-3 : tie.Need-returns-3
 returns-3 c =
-    let a = c .before .before .before .before .before .before .before .before .before .before .before .before .before .before .before .before .before .args in
-    ((λ f x l. last-read (a .s .now) (a .at) (a .total) (a .primary .0) _ (c .before .before .before .before .before .before .before .before .before .before .before .before .before .before .before .before .before .pre .0) (a .c) f x _ l (c .before .before .before .before .before .before .before .before .before .before .before .before .before .if1 .left) _ refl _ (sym (c .before .before .before .before .before .before .before .before .before .before .read-references .ensures .0) ∙ c .before .before .before .before .before .before .t2 .given .1) _ _ (c .before .before .before .before .before .before .before .before .before .before .read-references .ensures .1) (c .before .before .before .put-head2 .ensures) _ (c .found-idat2 .ensures _ (c .before .before .before .before .before .before .before .before .before .before .before .before .before .before .before .before .before .pre .0))), kept-on _ _ _ (c .before .before .before .before .before .before .before .before .before .before .read-references .ensures .1 .kept) (head-kept _ _ _ _ _ _ _ _ _ _ (c .before .before .before .put-head2 .ensures)))
+    let a = c .before .before .before .before .before .before .before .before .before .before .before .before .before .before .before .before .before .before .before .before .before .before .args in
+    let p = c .before .before .before .before .before .before .before .before .before .before .before .before .before .before .before .before .before .before .before .before .before .before .pre in
+    let g = c .before .before .before .before .before .before .before .before .before .before .before .before .read-references in
+    ((λ f x l. last-read (a .s .now) (a .at) (a .total) (a .primary .0) _ (p .0) (a .c) f x _ l (c .before .before .before .before .before .before .before .before .before .before .before .before .before .before .before .before .if1 .left) _ refl _ (sym (g .ensures .0) ∙ c .before .before .before .before .before .before .t2 .given .1) _ _ (g .ensures .1 .0) (c .before .before .before .put-head2 .ensures) _ (c .found-idat2 .ensures _ (p .0))), (kept-on _ _ _ (g .ensures .1 .0 .kept) (head-kept _ _ _ _ _ _ _ _ _ _ (c .before .before .before .put-head2 .ensures)), λ i e q. head-rowed (g .last .1 .1 .1 .0) _ (g .last .1 .1 .1 .1 .0) _ _ _ _ _ _ _ _ (c .before .before .before .put-head2 .ensures) (omega (arith, g .ensures .1 .0 .kept .same-length, p .2)) (g .ensures .1 .1 _ (c .before .before .before .before .before .before .t2 .given .1))))
 
 pub read-last-spec : {M : Type 1} → statement M
 read-last-spec =
-    tie.close (tie.spec (search needs) put-head-requires found-idat-requires (search needs) returns sub-read-references
-    part-read-references-start part-read-references-end add-read-references add-read-references-2
+    tie.close (tie.spec (search needs) put-head-requires found-idat-requires (search needs) returns add-place add-base sub-read-references
+    part-read-references-start part-read-references-end
     read-references-requires (search needs) (search needs) put-head-requires-2 found-idat-requires-2 (search needs)
-    returns-2 (search needs) returns-3)
+    (search needs) returns-2 (search needs) (search needs) returns-3)

@@ -1,4 +1,4 @@
--- `records::row_of` meets its contract: the row hoped for, the row guessed, and a search of all. Assumes nothing.
+-- `records::row_of` meets its contract: the row hoped for, the row guessed, the row in the ID's slot or a search of all. Assumes nothing.
 use borrow.Author.Needs.{needs}
 use Rattle.records.proofs.row_of.Statement.{statement}
 use Rattle.records.proofs.row_of.Tie as tie
@@ -10,7 +10,7 @@ returns-2 : tie.Need-returns-2
 returns-2 c = c .before .is-in-row2 .ensures (c .if2 .taken)
 
 returns-3 : tie.Need-returns-3
-returns-3 c = c .row-round .ensures
+returns-3 c = c .row-in-slot .ensures
 
 pub row-of-spec : {M : Type 1} → statement M
 row-of-spec =

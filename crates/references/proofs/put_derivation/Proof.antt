@@ -3,6 +3,7 @@ use mathlib.Core.Path.{refl, sym, _∙_}
 use mathlib.Core.Bool.{true}
 use Rattle.records.proofs.KeptLaws.{kept-same}
 use Rattle.references.proofs.PutLaws.{dimg-none, dimg-over, dimg-refused, dimg-done, kept-span}
+use Rattle.references.proofs.RowedLaws.{no-targets, rowed-stored}
 use native.Mathlib.Omega.{arith}
 use borrow.Author.Needs.{needs}
 use Rattle.references.proofs.put_derivation.Statement.{statement}
@@ -10,29 +11,31 @@ use Rattle.references.proofs.put_derivation.Tie as tie
 
 returns : tie.Need-returns
 returns c =
-    let a = c .before .before .before .args in
-    let p = c .before .before .before .pre in
-    (kept-same _, λ before q fresh. dimg-none (a .table .now) (a .n) (a .w) (a .place) (a .used) (a .s .now) true before q (omega (arith, p .1 .0)) _ (p .1 .1) (p .1 .2) fresh (p .1 .0) _ (p .1 .3) refl (c .if1 .taken) _)
+    let a = c .before .before .before .before .before .args in
+    let p = c .before .before .before .before .before .pre in
+    (kept-same _, (λ before q fresh. dimg-none (a .table .now) (a .n) (a .w) (a .place) (a .used) (a .s .now) true before q (omega (arith, p .1 .0)) _ (p .1 .1) (p .1 .2) fresh (p .1 .0) _ (p .1 .3) refl (c .if1 .taken) _, λ m e. no-targets _ m e))
 
 returns-2 : tie.Need-returns-2
 returns-2 c =
-    let a = c .before .before .before .before .args in
-    let p = c .before .before .before .before .pre in
-    (kept-same _, λ before q fresh. dimg-over (a .table .now) (a .n) (a .w) (a .place) (a .used) (a .s .now) true before q (omega (arith, p .1 .0)) _ (p .1 .1) (p .1 .2) fresh (p .1 .0) _ (p .1 .3) refl (c .before .if1 .left) (c .if2 .taken) _)
+    let a = c .before .before .before .before .before .before .args in
+    let p = c .before .before .before .before .before .before .pre in
+    (kept-same _, (λ before q fresh. dimg-over (a .table .now) (a .n) (a .w) (a .place) (a .used) (a .s .now) true before q (omega (arith, p .1 .0)) _ (p .1 .1) (p .1 .2) fresh (p .1 .0) _ (p .1 .3) refl (c .before .if1 .left) (c .if2 .taken) _, λ m e. no-targets _ m e))
 
 returns-3 : tie.Need-returns-3
 returns-3 c =
-    let a = c .before .before .before .before .before .before .before .before .before .before .before .args in
-    let p = c .before .before .before .before .before .before .before .before .before .before .before .pre in
-    (c .before .before .before .before .before .put-targets .ensures .1 .kept, λ before q fresh. dimg-refused (a .table .now) (a .n) (a .w) (a .place) (a .used) (a .s .now) true before q (omega (arith, p .1 .0)) _ (p .1 .1) (p .1 .2) fresh (p .1 .0) _ (p .1 .3) refl (c .before .before .before .before .before .before .before .before .if1 .left) (c .before .before .before .before .before .before .before .if2 .left) _ (sym (c .before .before .before .before .before .put-targets .ensures .0) ∙ c .before .t .given .1) _)
+    let a = c .before .before .before .before .before .before .before .before .before .before .before .before .before .before .before .before .args in
+    let p = c .before .before .before .before .before .before .before .before .before .before .before .before .before .before .before .before .pre in
+    (c .before .before .before .before .before .before .before .put-targets .ensures .1 .0 .kept, (λ before q fresh. dimg-refused (a .table .now) (a .n) (a .w) (a .place) (a .used) (a .s .now) true before q (omega (arith, p .1 .0)) _ (p .1 .1) (p .1 .2) fresh (p .1 .0) _ (p .1 .3) refl (c .before .before .before .before .before .before .before .before .before .before .before .if1 .left) (c .before .before .before .before .before .before .before .before .before .before .if2 .left) _ (sym (c .before .before .before .before .before .before .before .put-targets .ensures .0) ∙ c .before .t .given .1) _, λ m e. no-targets _ m e))
 
 returns-4 : tie.Need-returns-4
 returns-4 c =
-    let a = c .before .before .before .before .before .before .before .before .before .before .before .before .before .before .args in
-    let p = c .before .before .before .before .before .before .before .before .before .before .before .before .before .before .pre in
-    (kept-span _ _ _ (a .row .0) (a .used) (a .k) (omega (arith, p .1 .1, p .0 .1)) (c .before .before .before .before .before .before .before .before .put-targets .ensures .1 .kept) (c .before .before .put-span .ensures), λ before q fresh. dimg-done (a .table .now) (a .n) (a .w) (a .place) (a .used) (a .s .now) true before q (omega (arith, p .1 .0)) _ (p .1 .1) (p .1 .2) fresh (p .1 .0) _ (p .1 .3) refl (c .before .before .before .before .before .before .before .before .before .before .before .if1 .left) (c .before .before .before .before .before .before .before .before .before .before .if2 .left) (sym (c .before .before .before .before .before .before .before .before .put-targets .ensures .0) ∙ c .before .before .before .before .enum-told .given .1) _ _ (c .before .before .before .before .before .before .before .before .put-targets .ensures .1) (c .before .before .put-span .ensures))
+    let a = c .before .before .before .before .before .before .before .before .before .before .before .before .before .before .before .before .before .before .before .args in
+    let p = c .before .before .before .before .before .before .before .before .before .before .before .before .before .before .before .before .before .before .before .pre in
+    let put = c .before .before .before .before .before .before .before .before .before .before .put-targets in
+    (kept-span _ _ _ (a .row .0) (a .used) (a .k) (omega (arith, p .1 .1, p .0 .2)) (put .ensures .1 .0 .kept) (c .before .before .put-span .ensures), (λ before q fresh. dimg-done (a .table .now) (a .n) (a .w) (a .place) (a .used) (a .s .now) true before q (omega (arith, p .1 .0)) _ (p .1 .1) (p .1 .2) fresh (p .1 .0) _ (p .1 .3) refl (c .before .before .before .before .before .before .before .before .before .before .before .before .before .before .if1 .left) (c .before .before .before .before .before .before .before .before .before .before .before .before .before .if2 .left) (sym (put .ensures .0) ∙ c .before .before .before .before .enum-told .given .1) _ _ (put .ensures .1 .0) (c .before .before .put-span .ensures), rowed-stored (a .n) (a .used) (a .k) (a .row .0) (p .0 .2) (omega (arith, p .1 .1, p .0 .2)) (a .table .now) (put .last .1 .1 .1 .1 .1 .0) _ (a .rows .now) (put .last .1 .1 .1 .1 .1 .1 .0) (c .before .before .put-span .ensures) (put .ensures .1 .1 .1 refl (c .before .before .before .before .enum-told .given .1))))
 
 pub put-derivation-spec : {M : Type 1} → statement M
 put-derivation-spec =
     tie.close (tie.spec returns (search needs) returns-2 (search needs) (λ c κs. search needs) (search needs)
-    (search needs) (λ c κs. search needs) (search needs) (search needs) returns-3 (search needs) returns-4)
+    (search needs) (λ c κs. search needs) (search needs) (search needs) (search needs) returns-3 (search needs)
+    (search needs) returns-4)

@@ -3,90 +3,117 @@ use Prim.Native.Nat.{_-_}
 use mathlib.Core.Path.{subst}
 use Rattle.records.specs.Rows.{FoundIs}
 use Rattle.records.specs.declared.FoundRow.the-variants.{At}
+use Rattle.records.proofs.IdLaws.{found-row}
 use Rattle.references.proofs.TargetLaws.{So, begin, so-length, cut, unlisted, listed, left-over, done}
+use Rattle.references.proofs.RowedLaws.{Beside, beside-none, beside-more, beside-refused, beside-done}
 use native.Mathlib.Omega.{arith}
 use borrow.Author.Needs.{needs}
 use Rattle.references.proofs.put_targets.Statement.{statement}
 use Rattle.references.proofs.put_targets.Tie as tie
 
 abbrev Inv-loop : tie.InvT-loop
-Inv-loop s from w k place table₀ n keep used at₀ hope₀ j₀ table at hope j = So s from w k place n keep used table₀ table at j
+Inv-loop s from w k place table₀ rows₀ n slots keep used at₀ hope₀ j₀ table rows at hope j = So s from w k place n keep used table₀ table at j × Beside n used keep table₀ rows₀ j table rows
 
 abbrev μ-loop : tie.MeasureT-loop
-μ-loop s from w k place table₀ n keep used at₀ hope₀ j₀ table at hope j = k - j
+μ-loop s from w k place table₀ rows₀ n slots keep used at₀ hope₀ j₀ table rows at hope j = k - j
 
 loop-holds : tie.Need-loop-holds Inv-loop μ-loop
-loop-holds c = begin _ _ _ _ _ _ _ _ _ (c .before .before .pre .2)
+loop-holds c = (begin _ _ _ _ _ _ _ _ _ (c .before .before .before .before .pre .3), beside-none _ _ _ _ _)
 
 sub-if1 : tie.Need-sub-if1 Inv-loop μ-loop
-sub-if1 c = omega (arith, c .before .loop .inv .here)
+sub-if1 c = omega (arith, c .before .loop .inv .0 .here)
 
 same-length : tie.Need-same-length Inv-loop μ-loop
 same-length c =
-    let p = c .before .before .before .before .before .pre in
-    so-length _ _ _ _ _ _ _ _ _ (p .1) (p .4) (p .5) _ _ _ (c .before .before .loop .inv)
+    let p = c .before .before .before .before .before .before .before .pre in
+    so-length _ _ _ _ _ _ _ _ _ (p .2) (p .5) (p .6) _ _ _ (c .before .before .loop .inv .0)
+
+same-length-2 : tie.Need-same-length-2 Inv-loop μ-loop
+same-length-2 c = c .before .before .loop .inv .1 .long
 
 returns : tie.Need-returns Inv-loop μ-loop
 returns c =
-    let p = c .before .before .before .before .before .pre in
-    cut _ _ _ _ _ _ _ _ _ (p .1) (p .4) (p .5) _ _ _ (c .before .before .loop .inv) (c .before .loop-test .taken) (c .if1 .taken)
+    let p = c .before .before .before .before .before .before .before .pre in
+    let l = c .before .before .loop in
+    let x = cut _ _ _ _ _ _ _ _ _ (p .2) (p .5) (p .6) _ _ _ (l .inv .0) (c .before .loop-test .taken) (c .if1 .taken) in
+    (x .0, (x .1, beside-refused _ _ _ _ _ _ _ _ (l .inv .1) _ _))
 
 be-id-requires : tie.Need-be-id-requires Inv-loop μ-loop
-be-id-requires c κs = (omega (arith, c .before .before .loop .inv .here), c .before .before .before .before .before .pre .3)
+be-id-requires c κs = (omega (arith, c .before .before .loop .inv .0 .here), c .before .before .before .before .before .before .before .pre .4)
 
 row-of-requires : tie.Need-row-of-requires Inv-loop μ-loop
 row-of-requires c κs =
-    let p = c .before .before .before .before .before .before .before .pre in
-    (p .1, omega (arith, so-length _ _ _ _ _ _ _ _ _ (p .1) (p .4) (p .5) _ _ _ (c .before .before .before .before .loop .inv), p .0))
-
-same-length-2 : tie.Need-same-length-2 Inv-loop μ-loop
-same-length-2 c =
-    let p = c .before .before .before .before .before .before .before .before .before .before .pre in
-    so-length _ _ _ _ _ _ _ _ _ (p .1) (p .4) (p .5) _ _ _ (c .before .before .before .before .before .before .before .loop .inv)
-
-returns-2 : tie.Need-returns-2 Inv-loop μ-loop
-returns-2 c =
-    let p = c .before .before .before .before .before .before .before .before .before .before .pre in
-    unlisted _ _ _ _ _ _ _ _ _ (p .1) (p .4) (p .5) _ _ _ (c .before .before .before .before .before .before .before .loop .inv) (c .before .before .before .before .before .before .loop-test .taken) (c .before .before .before .before .before .if1 .left) _ (c .before .before .before .before .be-id .ensures) (subst (FoundIs _ _ _) (c .enum-told .given .1) (c .before .before .row-of .ensures))
-
-put-target-requires : tie.Need-put-target-requires Inv-loop μ-loop
-put-target-requires c κs =
-    let p = c .before .before .before .before .before .before .before .before .before .before .before .before .pre in
-    (omega (arith, so-length _ _ _ _ _ _ _ _ _ (p .1) (p .4) (p .5) _ _ _ (c .before .before .before .before .before .before .before .before .before .loop .inv), p .0), λ e. omega (arith, p .5 e, c .before .before .before .before .before .before .before .before .loop-test .taken))
-
-add-hope : tie.Need-add-hope Inv-loop μ-loop
-add-hope c = let g : FoundIs (c .before .before .before .before .before .before .before .before .before .before .before .before .before .loop .table) (c .before .before .before .before .before .before .before .before .before .before .before .before .before .before .before .before .args .n) (c .before .before .before .before .before .before .before .before .before .before .be-id .result) (At (c .before .before .before .before .before .before .f .given .0 .0)) = (subst (FoundIs _ _ _) (c .before .before .before .before .before .before .f .given .1) (c .before .before .before .before .before .before .before .before .row-of .ensures)) in omega (arith, g .0, c .before .before .before .before .before .before .before .before .before .before .before .before .before .before .before .before .pre .1)
-
-add-at : tie.Need-add-at Inv-loop μ-loop
-add-at c = omega (arith, c .before .before .before .before .before .before .before .before .before .before .before .before .before .loop .inv .here)
-
-loop-again : tie.Need-loop-again Inv-loop μ-loop
-loop-again c =
-    let p = c .before .before .before .before .before .before .before .before .before .before .before .before .before .before .before .before .pre in
-    listed _ _ _ _ _ _ _ _ _ (p .1) (p .4) (p .5) _ _ _ (c .before .before .before .before .before .before .before .before .before .before .before .before .before .loop .inv) (c .before .before .before .before .before .before .before .before .before .before .before .before .loop-test .taken) (c .before .before .before .before .before .before .before .before .before .before .before .if1 .left) _ (c .before .before .before .before .before .before .before .before .before .before .be-id .ensures) _ (subst (FoundIs _ _ _) (c .before .before .before .before .before .before .f .given .1) (c .before .before .before .before .before .before .before .before .row-of .ensures)) _ (c .before .before .before .put-target .ensures)
+    let p = c .before .before .before .before .before .before .before .before .before .pre in
+    (p .2, omega (arith, so-length _ _ _ _ _ _ _ _ _ (p .2) (p .5) (p .6) _ _ _ (c .before .before .before .before .loop .inv .0), p .0))
 
 same-length-3 : tie.Need-same-length-3 Inv-loop μ-loop
 same-length-3 c =
-    let p = c .before .before .before .before .before .pre in
-    so-length _ _ _ _ _ _ _ _ _ (p .1) (p .4) (p .5) _ _ _ (c .before .before .loop .inv)
+    let p = c .before .before .before .before .before .before .before .before .before .before .before .before .pre in
+    so-length _ _ _ _ _ _ _ _ _ (p .2) (p .5) (p .6) _ _ _ (c .before .before .before .before .before .before .before .loop .inv .0)
+
+same-length-4 : tie.Need-same-length-4 Inv-loop μ-loop
+same-length-4 c = c .before .before .before .before .before .before .before .loop .inv .1 .long
+
+returns-2 : tie.Need-returns-2 Inv-loop μ-loop
+returns-2 c =
+    let p = c .before .before .before .before .before .before .before .before .before .before .before .before .pre in
+    let l = c .before .before .before .before .before .before .before .loop in
+    let x = unlisted _ _ _ _ _ _ _ _ _ (p .2) (p .5) (p .6) _ _ _ (l .inv .0) (c .before .before .before .before .before .before .loop-test .taken) (c .before .before .before .before .before .if1 .left) _ (c .before .before .before .before .be-id .ensures) (subst (FoundIs _ _ _) (c .enum-told .given .1) (c .before .before .row-of .ensures)) in
+    (x .0, (x .1, beside-refused _ _ _ _ _ _ _ _ (l .inv .1) _ _))
+
+put-target-requires : tie.Need-put-target-requires Inv-loop μ-loop
+put-target-requires c κs =
+    let p = c .before .before .before .before .before .before .before .before .before .before .before .before .before .before .before .pre in
+    (omega (arith, so-length _ _ _ _ _ _ _ _ _ (p .2) (p .5) (p .6) _ _ _ (c .before .before .before .before .before .before .before .before .before .before .loop .inv .0), p .0), omega (arith, c .before .before .before .before .before .before .before .before .before .before .loop .inv .1 .long, p .1), λ e. omega (arith, p .6 e, c .before .before .before .before .before .before .before .before .before .loop-test .taken), omega (arith, found-row _ _ _ _ _ (c .before .before .before .before .before .row-of .ensures) (c .before .before .before .f .given .1) .0, p .2))
+
+add-hope : tie.Need-add-hope Inv-loop μ-loop
+add-hope c = let g : FoundIs (c .before .before .before .before .before .before .before .before .before .before .before .before .before .before .before .before .loop .table) (c .before .before .before .before .before .before .before .before .before .before .before .before .before .before .before .before .before .before .before .before .before .args .n) (c .before .before .before .before .before .before .before .before .before .before .before .before .before .be-id .result) (At (c .before .before .before .before .before .before .before .before .before .f .given .0 .0)) = (subst (FoundIs _ _ _) (c .before .before .before .before .before .before .before .before .before .f .given .1) (c .before .before .before .before .before .before .before .before .before .before .before .row-of .ensures)) in omega (arith, g .0, c .before .before .before .before .before .before .before .before .before .before .before .before .before .before .before .before .before .before .before .before .before .pre .2)
+
+add-at : tie.Need-add-at Inv-loop μ-loop
+add-at c = omega (arith, c .before .before .before .before .before .before .before .before .before .before .before .before .before .before .before .before .loop .inv .0 .here)
+
+loop-again : tie.Need-loop-again Inv-loop μ-loop
+loop-again c =
+    let p = c .before .before .before .before .before .before .before .before .before .before .before .before .before .before .before .before .before .before .before .before .before .pre in
+    let l = c .before .before .before .before .before .before .before .before .before .before .before .before .before .before .before .before .loop in
+    let put = c .before .before .before .before .before .put-target in
+    let more = c .before .before .before .before .before .before .before .before .before .before .before .before .before .before .before .loop-test .taken in
+    let long = so-length _ _ _ _ _ _ _ _ _ (p .2) (p .5) (p .6) _ _ _ (l .inv .0) in
+    let g = found-row (l .table) (c .before .before .before .before .before .before .before .before .before .before .before .before .before .before .before .before .before .before .before .before .before .args .n) (c .before .before .before .before .before .before .before .before .before .before .before .before .before .be-id .result) _ _ (c .before .before .before .before .before .before .before .before .before .before .before .row-of .ensures) (c .before .before .before .before .before .before .before .before .before .f .given .1) in
+    (listed _ _ _ _ _ _ _ _ _ (p .2) (p .5) (p .6) _ _ _ (l .inv .0) more (c .before .before .before .before .before .before .before .before .before .before .before .before .before .before .if1 .left) _ (c .before .before .before .before .before .before .before .before .before .before .before .before .before .be-id .ensures) _ g _ (put .ensures .0), beside-more _ _ _ _ _ _ _ _ (l .inv .1) (p .2) (omega (arith, long, p .0)) (p .1) (λ e. omega (arith, p .6 e, more)) _ _ g _ _ (put .ensures .0) (put .ensures .1))
+
+same-length-5 : tie.Need-same-length-5 Inv-loop μ-loop
+same-length-5 c =
+    let p = c .before .before .before .before .before .before .before .pre in
+    so-length _ _ _ _ _ _ _ _ _ (p .2) (p .5) (p .6) _ _ _ (c .before .before .loop .inv .0)
+
+same-length-6 : tie.Need-same-length-6 Inv-loop μ-loop
+same-length-6 c = c .before .before .loop .inv .1 .long
 
 returns-3 : tie.Need-returns-3 Inv-loop μ-loop
 returns-3 c =
-    let p = c .before .before .before .before .before .pre in
-    left-over _ _ _ _ _ _ _ _ _ (p .1) (p .4) (p .5) _ _ _ (c .before .before .loop .inv) (c .before .loop-test .left) (c .if2 .taken)
+    let p = c .before .before .before .before .before .before .before .pre in
+    let l = c .before .before .loop in
+    let x = left-over _ _ _ _ _ _ _ _ _ (p .2) (p .5) (p .6) _ _ _ (l .inv .0) (c .before .loop-test .left) (c .if2 .taken) in
+    (x .0, (x .1, beside-refused _ _ _ _ _ _ _ _ (l .inv .1) _ _))
 
-same-length-4 : tie.Need-same-length-4 Inv-loop μ-loop
-same-length-4 c =
-    let p = c .before .before .before .before .before .pre in
-    so-length _ _ _ _ _ _ _ _ _ (p .1) (p .4) (p .5) _ _ _ (c .before .before .loop .inv)
+same-length-7 : tie.Need-same-length-7 Inv-loop μ-loop
+same-length-7 c =
+    let p = c .before .before .before .before .before .before .before .pre in
+    so-length _ _ _ _ _ _ _ _ _ (p .2) (p .5) (p .6) _ _ _ (c .before .before .loop .inv .0)
+
+same-length-8 : tie.Need-same-length-8 Inv-loop μ-loop
+same-length-8 c = c .before .before .loop .inv .1 .long
 
 returns-4 : tie.Need-returns-4 Inv-loop μ-loop
 returns-4 c =
-    let p = c .before .before .before .before .before .pre in
-    done _ _ _ _ _ _ _ _ _ (p .1) (p .4) (p .5) _ _ _ (c .before .before .loop .inv) (c .before .loop-test .left) (c .if2 .left)
+    let p = c .before .before .before .before .before .before .before .pre in
+    let l = c .before .before .loop in
+    let x = done _ _ _ _ _ _ _ _ _ (p .2) (p .5) (p .6) _ _ _ (l .inv .0) (c .before .loop-test .left) (c .if2 .left) in
+    (x .0, (x .1, beside-done _ _ _ _ _ _ _ _ (l .inv .1) _ (c .before .loop-test .left)))
 
 pub put-targets-spec : {M : Type 1} → statement M
 put-targets-spec =
-    tie.close (tie.spec Inv-loop μ-loop loop-holds sub-if1 same-length returns be-id-requires row-of-requires
-    (search needs) same-length-2 returns-2 (search needs) put-target-requires add-hope add-at (λ c. omega arith)
-    (λ c. omega arith) loop-again same-length-3 returns-3 same-length-4 returns-4)
+    tie.close (tie.spec Inv-loop μ-loop loop-holds sub-if1 same-length same-length-2 returns be-id-requires
+    row-of-requires (search needs) same-length-3 same-length-4 returns-2 (search needs) put-target-requires add-hope add-at
+    (λ c. omega arith) (λ c. omega arith) loop-again same-length-5 same-length-6 returns-3 same-length-7 same-length-8 returns-4)

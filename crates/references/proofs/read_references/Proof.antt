@@ -6,36 +6,40 @@ use Rattle.fields.proofs.FieldLaws.{pick-yes, pick-no}
 use Rattle.contents.specs.Full.{upto}
 use Rattle.contents.proofs.FullLaws.{full-here, full-gone}
 use Rattle.references.proofs.IrefLaws.{tells-gone, tells-by}
+use Rattle.references.proofs.RowedLaws.{no-targets}
 use borrow.Author.Needs.{needs}
 use Rattle.references.proofs.read_references.Statement.{statement}
 use Rattle.references.proofs.read_references.Tie as tie
 
 put-references-requires : tie.Need-put-references-requires
 put-references-requires c κs =
-    let p = c .before .before .before .before .before .before .before .before .pre in
-    ((p .0 .0, p .0 .1, p .0 .2, (full-here (upto 1) (c .before .before .before .before .before .before .before .before .args .place) (c .before .before .before .before .before .before .before .before .args .s .now) _ _ (sym (c .before .before .before .before .before .read-full .ensures) ∙ c .before .before .before .h2 .given .1)) .room, inl refl), p .1)
+    let p = c .before .before .before .before .before .before .before .before .before .before .before .pre in
+    ((p .0 .0, p .0 .1, p .0 .2, p .0 .3, (full-here (upto 1) (c .before .before .before .before .before .before .before .before .before .before .before .args .place) (c .before .before .before .before .before .before .before .before .before .before .before .args .s .now) _ _ (sym (c .before .before .before .before .before .before .read-full .ensures) ∙ c .before .before .before .before .h2 .given .1)) .room, inl refl), p .1)
 
 returns : tie.Need-returns
 returns c =
-    let a = c .before .before .before .before .before .before .before .before .before .before .before .args in
-    tells-by (a .s .now) (a .place) (a .base) (a .n) (a .table .now) _ _ (full-here (upto 1) (a .place) (a .s .now) _ _ (sym (c .before .before .before .before .before .before .before .before .read-full .ensures) ∙ c .before .before .before .before .before .before .h2 .given .1)) 2 (pick-yes _ _ (eq-eqb _ _ (c .before .before .before .before .if1 .taken))) _ _ (c .before .before .put-references .ensures .0) (c .before .before .put-references .ensures .1)
+    let a = c .before .before .before .before .before .before .before .before .before .before .before .before .before .before .before .before .args in
+    let x = tells-by (a .s .now) (a .place) (a .base) (a .n) (a .table .now) _ _ (full-here (upto 1) (a .place) (a .s .now) _ _ (sym (c .before .before .before .before .before .before .before .before .before .before .before .read-full .ensures) ∙ c .before .before .before .before .before .before .before .before .before .h2 .given .1)) 2 (pick-yes _ _ (eq-eqb _ _ (c .before .before .before .before .before .before .before .if1 .taken))) _ _ (c .before .before .before .before .put-references .ensures .0) (c .before .before .before .before .put-references .ensures .1 .0) in
+    (x .0, (x .1, c .before .before .before .before .put-references .ensures .1 .1))
 
 put-references-requires-2 : tie.Need-put-references-requires-2
 put-references-requires-2 c κs =
-    let p = c .before .before .before .before .before .before .before .before .pre in
-    ((p .0 .0, p .0 .1, p .0 .2, (full-here (upto 1) (c .before .before .before .before .before .before .before .before .args .place) (c .before .before .before .before .before .before .before .before .args .s .now) _ _ (sym (c .before .before .before .before .before .read-full .ensures) ∙ c .before .before .before .h2 .given .1)) .room, inr refl), p .1)
+    let p = c .before .before .before .before .before .before .before .before .before .before .before .pre in
+    ((p .0 .0, p .0 .1, p .0 .2, p .0 .3, (full-here (upto 1) (c .before .before .before .before .before .before .before .before .before .before .before .args .place) (c .before .before .before .before .before .before .before .before .before .before .before .args .s .now) _ _ (sym (c .before .before .before .before .before .before .read-full .ensures) ∙ c .before .before .before .before .h2 .given .1)) .room, inr refl), p .1)
 
 returns-2 : tie.Need-returns-2
 returns-2 c =
-    let a = c .before .before .before .before .before .before .args in
-    tells-gone (a .s .now) (a .place) (a .base) (a .n) (a .table .now) _ (full-gone (upto 1) (a .place) (a .s .now) _ _ (sym (c .before .before .before .read-full .ensures) ∙ c .before .h .given .1))
+    let a = c .before .before .before .before .before .before .before .before .args in
+    let x = tells-gone (a .s .now) (a .place) (a .base) (a .n) (a .table .now) _ (full-gone (upto 1) (a .place) (a .s .now) _ _ (sym (c .before .before .before .read-full .ensures) ∙ c .before .h .given .1)) in
+    (x .0, (x .1, λ m e. no-targets _ m e))
 
 returns-3 : tie.Need-returns-3
 returns-3 c =
-    let a = c .before .before .before .before .before .before .before .before .before .before .before .args in
-    tells-by (a .s .now) (a .place) (a .base) (a .n) (a .table .now) _ _ (full-here (upto 1) (a .place) (a .s .now) _ _ (sym (c .before .before .before .before .before .before .before .before .read-full .ensures) ∙ c .before .before .before .before .before .before .h2 .given .1)) 4 (pick-no _ _ (ne-eqb _ _ (c .before .before .before .before .if1 .left))) _ _ (c .before .before .put-references2 .ensures .0) (c .before .before .put-references2 .ensures .1)
+    let a = c .before .before .before .before .before .before .before .before .before .before .before .before .before .before .before .before .args in
+    let x = tells-by (a .s .now) (a .place) (a .base) (a .n) (a .table .now) _ _ (full-here (upto 1) (a .place) (a .s .now) _ _ (sym (c .before .before .before .before .before .before .before .before .before .before .before .read-full .ensures) ∙ c .before .before .before .before .before .before .before .before .before .h2 .given .1)) 4 (pick-no _ _ (ne-eqb _ _ (c .before .before .before .before .before .before .before .if1 .left))) _ _ (c .before .before .before .before .put-references2 .ensures .0) (c .before .before .before .before .put-references2 .ensures .1 .0) in
+    (x .0, (x .1, c .before .before .before .before .put-references2 .ensures .1 .1))
 
 pub read-references-spec : {M : Type 1} → statement M
 read-references-spec =
-    tie.close (tie.spec (search needs) (search needs) (search needs) put-references-requires (search needs) returns
-    put-references-requires-2 returns-2 (search needs) returns-3)
+    tie.close (tie.spec (search needs) (search needs) (search needs) put-references-requires (search needs) (search needs)
+    returns put-references-requires-2 returns-2 (search needs) (search needs) returns-3)

@@ -25,30 +25,30 @@ Inv-loop table rows row z n j₀ j = (j ≤ n) × ((total : ℕ) (head : List �
 abbrev μ-loop : tie.MeasureT-loop
 μ-loop table rows row z n j₀ j = n - j
 
-returns : tie.Need-returns Inv-loop μ-loop
-returns c =
+returns-2 : tie.Need-returns-2 Inv-loop μ-loop
+returns-2 c =
     λ total head f d h i.
-    let r = c .before .before .before .before .before .before .before .before .before .args .row .0 in
+    let r = c .before .before .before .before .before .before .before .before .before .before .args .row .0 in
     let j = c .before .before .before .before .before .loop .j in
     let l : j < length (targetsOf f (idOf f r)) = omega (arith, c .before .before .before .before .before .before .input-count .ensures head _ f (d .view) h) in
     let k : j < length (pictureAt (sceneOf total head f) r .inputs) = omega (arith, inputs-many d r i) in
-    size-other (sceneOf total head f) _ _ j k _ (c .before .is-same .ensures ∙ ap (λ (y : Size). sameSize y (c .before .before .before .before .before .before .before .before .before .args .z)) (input-size d r i j l _ (c .before .before .before .input-of .ensures head _ f (d .view) (d .resolved) h l) _ (c .before .before .output-in .ensures))) (not-true _ (c .if1 .taken)) (c .before .before .before .before .before .loop .inv .1 total head f d h i)
+    size-other (sceneOf total head f) _ _ j k _ (c .before .is-same .ensures ∙ ap (λ (y : Size). sameSize y (c .before .before .before .before .before .before .before .before .before .before .args .z)) (input-size d r i j l _ (c .before .before .before .input-of .ensures head _ f (d .view) (d .resolved) h l) _ (c .before .before .held-output .ensures))) (not-true _ (c .if2 .taken)) (c .before .before .before .before .before .loop .inv .1 total head f d h i)
 
 loop-again : tie.Need-loop-again Inv-loop μ-loop
 loop-again c = (
   omega arith,
   λ total head f d h i.
-      let r = c .before .before .before .before .before .before .before .before .before .args .row .0 in
+      let r = c .before .before .before .before .before .before .before .before .before .before .args .row .0 in
       let j = c .before .before .before .before .before .loop .j in
       let l : j < length (targetsOf f (idOf f r)) = omega (arith, c .before .before .before .before .before .before .input-count .ensures head _ f (d .view) h) in
       let k : j < length (pictureAt (sceneOf total head f) r .inputs) = omega (arith, inputs-many d r i) in
-      size-more (sceneOf total head f) _ _ j k _ (c .before .is-same .ensures ∙ ap (λ (y : Size). sameSize y (c .before .before .before .before .before .before .before .before .before .args .z)) (input-size d r i j l _ (c .before .before .before .input-of .ensures head _ f (d .view) (d .resolved) h l) _ (c .before .before .output-in .ensures))) (not-false _ (c .if1 .left)) (c .before .before .before .before .before .loop .inv .1 total head f d h i),
+      size-more (sceneOf total head f) _ _ j k _ (c .before .is-same .ensures ∙ ap (λ (y : Size). sameSize y (c .before .before .before .before .before .before .before .before .before .before .args .z)) (input-size d r i j l _ (c .before .before .before .input-of .ensures head _ f (d .view) (d .resolved) h l) _ (c .before .before .held-output .ensures))) (not-false _ (c .if2 .left)) (c .before .before .before .before .before .loop .inv .1 total head f d h i),
 )
 
-returns-2 : tie.Need-returns-2 Inv-loop μ-loop
-returns-2 c = λ total head f d h i. size-all (sceneOf total head f) _ _ (c .before .loop .j) (omega (arith, c .before .before .input-count .ensures head _ f (d .view) h, inputs-many d (c .before .before .before .before .before .args .row .0) i)) (c .before .loop .inv .1 total head f d h i)
+returns-3 : tie.Need-returns-3 Inv-loop μ-loop
+returns-3 c = λ total head f d h i. size-all (sceneOf total head f) _ _ (c .before .loop .j) (omega (arith, c .before .before .input-count .ensures head _ f (d .view) h, inputs-many d (c .before .before .before .before .before .before .args .row .0) i)) (c .before .loop .inv .1 total head f d h i)
 
 pub all-size-spec : {M : Type 1} → statement M
 all-size-spec =
-    tie.close (tie.spec Inv-loop μ-loop (search needs) (λ c. (omega arith, λ total head f d h i. refl)) (search needs)
-    (search needs) (search needs) returns (search needs) (search needs) loop-again returns-2)
+    tie.close (tie.spec Inv-loop μ-loop (λ c. λ total head f d h i. absurd (omega (arith, d .view .enough))) (search needs) (λ c. (omega arith, λ total head f d h i. refl)) (search needs)
+    (search needs) (search needs) returns-2 (search needs) (search needs) loop-again returns-3)

@@ -58,7 +58,7 @@ loop-again c =
       omega arith,
       r .ensures .1 .1 .1 ∙ q .inv .2,
       stands-more (a .head .now) (a .table .now) _ (q .k) (q .table) n (q .inv .3) (d .result) (r .result) _ l (r .ensures .0) (r .ensures .1 .0) (c .if3 .left),
-      filled-more (a .head .now) (a .depths .now) (a .table .now) _ (q .k) (q .table) n (q .inv .4) (d .result) (r .result) _ l (d .ensures) (c .if3 .left) (r .ensures .1 .0),
+      filled-more (a .head .now) (a .depths .now) (a .table .now) _ (q .k) (q .table) n (q .inv .4) (d .result) (r .result) _ l (d .ensures) (c .if3 .left) (λ pl f v j. q .inv .3 pl f v j .told) (r .ensures .1 .0),
     )
 
 returns-4 : tie.Need-returns-4 Inv-loop μ-loop
