@@ -1,8 +1,8 @@
-// A line for each question: its words as asked and the answer, or the refusal. `table` is lent and left as `still` leaves it.
+// A line for each question: its word and numbers as asked, then the answer's fields or those of the refusal. `table` is lent and left as `still` leaves it.
 ghost use mathlib.Core.Path.{_≡_};
 ghost use lib.ListN.{length};
+use boxes::Refusal;
 use lines::print_field;
-use lines::print_refusal;
 use pictures::Point;
 use still::FileVerdict;
 use still::Listed;
@@ -11,13 +11,24 @@ use still::Traced;
 use table::ItemId;
 use words::say;
 
-// `verdict`, `accepted`, items, primary ID.
+// `refused`, number, place, and the sentence, in any answer's place.
+fn print_refused(head: &[u8], total: u64, f: Refusal) {
+    say(1, b"\trefused");
+    print_field(f.number as u64);
+    print_field(f.place);
+    say(1, b"\t");
+    causes::print_sentence(1, head, total, f);
+    say(1, b"\n");
+}
+
+// `verdict`; `accepted`, items, primary ID.
 pub fn print_verdict(head: &[u8], total: u64, table: &mut [u32]) {
     let v = still::verdict(head, total, table);
+    say(1, b"verdict");
     match v {
-        FileVerdict::Refused(f) => print_refusal(f),
+        FileVerdict::Refused(f) => print_refused(head, total, f),
         FileVerdict::Accepted { items, primary } => {
-            say(1, b"verdict\taccepted");
+            say(1, b"\taccepted");
             print_field(items as u64);
             print_field(primary.0 as u64);
             say(1, b"\n");
@@ -25,30 +36,26 @@ pub fn print_verdict(head: &[u8], total: u64, table: &mut [u32]) {
     }
 }
 
-// `why`, `accepted`; or the refusal and what it says in words.
+// `why`; where the file is accepted, what stands for number, place and sentence.
 pub fn print_why(head: &[u8], total: u64, table: &mut [u32]) {
     let v = still::verdict(head, total, table);
+    say(1, b"why");
     match v {
-        FileVerdict::Refused(f) => {
-            say(1, b"refused");
-            print_field(f.number as u64);
-            print_field(f.place);
-            say(1, b"\t");
-            words::print_refusal(1, head, f);
-            say(1, b"\n");
-        }
+        FileVerdict::Refused(f) => print_refused(head, total, f),
         FileVerdict::Accepted {
             items: _,
             primary: _,
-        } => say(1, b"why\taccepted\n"),
+        } => say(1, b"\taccepted\t0\t0\tthe file keeps every rule\n"),
     }
 }
 
-// `size`, ID, reconstructed width, height, output width, height, depth.
+// `size`, ID; reconstructed width, height, output width, height, depth.
 pub fn print_size(head: &[u8], total: u64, table: &mut [u32], id: u32) {
     let s = still::size(head, total, table, ItemId(id));
+    say(1, b"size");
+    print_field(id as u64);
     match s {
-        Sized::Refused(f) => print_refusal(f),
+        Sized::Refused(f) => print_refused(head, total, f),
         Sized::Is {
             wide,
             high,
@@ -56,8 +63,6 @@ pub fn print_size(head: &[u8], total: u64, table: &mut [u32], id: u32) {
             output_high,
             depth,
         } => {
-            say(1, b"size");
-            print_field(id as u64);
             print_field(wide as u64);
             print_field(high as u64);
             print_field(output_wide as u64);
@@ -78,36 +83,27 @@ fn print_end(kind: &[u8], item: ItemId, x: u32, y: u32, passed: u32) {
     say(1, b"\n");
 }
 
-fn print_traced(id: u32, x: u32, y: u32) {
+// `trace`, ID, x, y; `pixel` or `fill`, item ID, x, y there, items passed.
+pub fn print_trace(head: &[u8], total: u64, table: &mut [u32], id: u32, x: u32, y: u32) {
+    let t = still::trace(head, total, table, ItemId(id), Point { x, y });
     say(1, b"trace");
     print_field(id as u64);
     print_field(x as u64);
     print_field(y as u64);
-}
-
-// `trace`, ID, x, y; `pixel` or `fill`, item ID, x, y there, items passed.
-pub fn print_trace(head: &[u8], total: u64, table: &mut [u32], id: u32, x: u32, y: u32) {
-    let t = still::trace(head, total, table, ItemId(id), Point { x, y });
     match t {
-        Traced::Refused(f) => print_refusal(f),
+        Traced::Refused(f) => print_refused(head, total, f),
         Traced::Pixel {
             item,
             x: end_x,
             y: end_y,
             passed,
-        } => {
-            print_traced(id, x, y);
-            print_end(b"\tpixel", item, end_x, end_y, passed);
-        }
+        } => print_end(b"\tpixel", item, end_x, end_y, passed),
         Traced::Fill {
             item,
             x: end_x,
             y: end_y,
             passed,
-        } => {
-            print_traced(id, x, y);
-            print_end(b"\tfill", item, end_x, end_y, passed);
-        }
+        } => print_end(b"\tfill", item, end_x, end_y, passed),
     }
 }
 
@@ -130,11 +126,11 @@ fn print_list(list: &[u32], n: usize) {
 pub fn print_sources(head: &[u8], total: u64, table: &mut [u32], id: u32) {
     let mut list = new_list();
     let l = still::sources(head, total, table, ItemId(id), &mut list);
+    say(1, b"sources");
+    print_field(id as u64);
     match l {
-        Listed::Refused(f) => print_refusal(f),
+        Listed::Refused(f) => print_refused(head, total, f),
         Listed::Is(n) => {
-            say(1, b"sources");
-            print_field(id as u64);
             print_list(&list, n);
             say(1, b"\n");
         }
@@ -149,13 +145,16 @@ fn print_bytes(part: &[u8]) {
     }
 }
 
-// The type in hex, the length and the bytes in hex; `none` and 0 where the property is named by index 0.
+// The type in hex and in letters, the length and the bytes in hex; `-`, and 0 for the length, where the property is named by index 0.
 fn print_part(part: &[u8]) {
     if part.len() < 8 {
-        return say(1, b"\tnone\t0\n");
+        return say(1, b"\t-\t-\t0\t-\n");
     }
+    let kind = fields::be32(part, 4);
     say(1, b"\t");
-    io::print_hex(1, fields::be32(part, 4) as u64, 8);
+    io::print_hex(1, kind as u64, 8);
+    say(1, b"\t");
+    words::print_letters(1, kind);
     print_field(part.len() as u64);
     say(1, b"\t");
     print_bytes(part);
@@ -166,11 +165,15 @@ fn print_part(part: &[u8]) {
 pub fn print_property(head: &[u8], total: u64, table: &mut [u32], id: u32, k: u32) {
     let mut told = [0u64; 2];
     let part = still::property(head, total, table, ItemId(id), k, &mut told);
+    say(1, b"property");
+    print_field(id as u64);
+    print_field(k as u64);
     if told[0] == 0 {
-        say(1, b"property");
-        print_field(id as u64);
-        print_field(k as u64);
         return print_part(part);
     }
-    lines::print_refused(told[0], told[1]);
+    let f = Refusal {
+        number: (told[0] % 4294967296) as u32,
+        place: told[1],
+    };
+    print_refused(head, total, f);
 }

@@ -74,10 +74,11 @@ fn print_answer(q: Question, head: &[u8], total: u64) {
     }
 }
 
+// The script ./ask names a wrong argument before it starts this program.
 fn print_use() {
     words::say(
         2,
-        b"write: ./ask FILE verdict, or why, size ID, trace ID X Y, sources ID, property ID K; FILE - is standard input, numbers are decimal and at most 4294967295\n",
+        b"there is no such question; ./ask --help lists the questions\n",
     );
 }
 

@@ -68,10 +68,11 @@ fn draw_file(head: &[u8], total: u64, asked: Asked) {
     }
 }
 
+// The script ./draw names a wrong argument before it starts this program.
 fn print_use() {
     words::say(
         2,
-        b"write: ./draw FILE, or ./draw FILE ITEM; FILE - is standard input, an item ID is decimal and at most 4294967295\n",
+        b"there is no such item; ./draw --help says what to write\n",
     );
 }
 

@@ -74,6 +74,48 @@ fn is_text(a: u8, b: u8, c: u8, d: u8) -> bool
     is_printable(d)
 }
 
+// The last byte of a number.
+fn last_byte(x: u32) -> u8 {
+    (x % 256) as u8
+}
+
+// A byte as it shows, or a point.
+fn shown(b: u8) -> u8 {
+    if is_printable(b) {
+        return b;
+    }
+    b'.'
+}
+
+// The four letters of a type, a point for each byte that shows as none.
+pub fn print_letters(fd: i32, kind: u32) {
+    let letters = [
+        shown(last_byte(kind / 16777216)),
+        shown(last_byte(kind / 65536)),
+        shown(last_byte(kind / 256)),
+        shown(last_byte(kind)),
+    ];
+    say(fd, &letters);
+}
+
+fn is_named(kind: u32) -> bool {
+    is_text(
+        last_byte(kind / 16777216),
+        last_byte(kind / 65536),
+        last_byte(kind / 256),
+        last_byte(kind),
+    )
+}
+
+// A type by its letters, or in hex where they are no text.
+pub fn print_kind(fd: i32, kind: u32) {
+    if is_named(kind) {
+        print_letters(fd, kind);
+    } else {
+        io::print_hex(fd, kind as u64, 8);
+    }
+}
+
 // The box at a place of the head by its type: `iinf`, or in hex where that is no text.
 fn print_box(fd: i32, head: &[u8], at: usize) {
     if head.len() < 8 {
@@ -82,41 +124,30 @@ fn print_box(fd: i32, head: &[u8], at: usize) {
     if head.len() - 8 < at {
         return say(fd, b"a box");
     }
-    let a = at + 4;
-    let e = at + 8;
-    if is_text(head[a], head[at + 5], head[at + 6], head[at + 7]) {
+    let kind = fields::be32(head, at + 4);
+    if is_named(kind) {
         say(fd, b"`");
-        say(fd, &head[a..e]);
+        print_letters(fd, kind);
         say(fd, b"`");
     } else {
         say(fd, b"box ");
-        io::print_hex(fd, fields::be32(head, a) as u64, 8);
+        print_kind(fd, kind);
     }
 }
 
-// Whom the words are about: ` at 93: `iinf` `, `: item 5 `, or only `: `.
-fn print_subject(fd: i32, head: &[u8], f: Refusal) {
+// Whom the words are about, where the place tells it: `iinf` or item 5.
+pub fn print_subject(fd: i32, head: &[u8], f: Refusal) {
     let kind = place_kind(f.number);
     match kind {
-        PlaceKind::Nothing => say(fd, b": "),
+        PlaceKind::Nothing => {}
         PlaceKind::Box => {
-            say(fd, b" at ");
-            io::print_decimal(fd, f.place);
-            say(fd, b": ");
             print_box(fd, head, f.place as usize);
             say(fd, b" ");
         }
         PlaceKind::Item | PlaceKind::Asked => {
-            say(fd, b": item ");
+            say(fd, b"item ");
             io::print_decimal(fd, f.place);
             say(fd, b" ");
         }
     }
-}
-
-// `8 at 93: `iinf` ends inside ..`, `18: item 5 is made from itself`, `5: there is no ..`.
-pub fn print_refusal(fd: i32, head: &[u8], f: Refusal) {
-    io::print_decimal(fd, f.number as u64);
-    print_subject(fd, head, f);
-    print_words(fd, f.number);
 }

@@ -1,0 +1,222 @@
+// Refusals 12 to 17 and 22: what the table says of the item, as far as it was read.
+ghost use mathlib.Core.Path.{_≡_};
+ghost use lib.ListN.{length};
+use boxes::Refusal;
+use reading::FileRead;
+use records::FoundRow;
+use table::ItemId;
+use table::ItemRow;
+use words::say;
+
+const ISPE: u32 = 0x69737065;
+
+// Room for what reading fills.
+fn new_table() -> [u32; 11280]
+    ensures { λ r. ⌜ 11280 ≡ length r ⌝ }
+{
+    [0; 11280]
+}
+
+fn new_rows() -> [u32; 2048]
+    ensures { λ r. ⌜ 2048 ≡ length r ⌝ }
+{
+    [0; 2048]
+}
+
+fn print_type(fd: i32, table: &[u32], row: ItemRow) {
+    say(fd, b"is of type ");
+    words::print_kind(fd, views::type_of(table, row));
+    say(fd, b", which is no picture here");
+}
+
+// 12: of the wrong type, or hidden.
+fn print_primary(fd: i32, table: &[u32], row: ItemRow) {
+    if views::is_image(views::type_of(table, row)) {
+        return say(fd, b"is hidden");
+    }
+    print_type(fd, table, row);
+}
+
+// 13: another method, another file, or an extent of length 0.
+fn print_method(fd: i32, table: &[u32], row: ItemRow) {
+    let method = views::record_word(table, row, 9);
+    if 1 < method {
+        say(fd, b"has its bytes by method ");
+        io::print_decimal(fd, method as u64);
+        return say(fd, b", and this reader goes by 0 and 1");
+    }
+    if views::record_word(table, row, 10) != 0 {
+        return say(fd, b"has its bytes in another file");
+    }
+    say(fd, b"has an extent of length 0");
+}
+
+// 14: no bytes, or bytes past an end.
+fn print_reach(fd: i32, table: &[u32], row: ItemRow, total: u64) {
+    if views::record_word(table, row, 8) == 0 {
+        return say(fd, b"is a coded picture that has no bytes");
+    }
+    if views::record_word(table, row, 9) == 1 {
+        return say(fd, b"has bytes past the end of `idat`");
+    }
+    say(fd, b"has bytes past the end of the file, which has ");
+    io::print_decimal(fd, total);
+    say(fd, b" bytes");
+}
+
+// The place among an item's properties of the first essential one that this reader does not know, or how many there are.
+fn first_unknown(table: &[u32], row: ItemRow) -> usize {
+    let n = declared::property_count(table, row);
+    let mut j: usize = 0;
+    while j < n {
+        if 32768 <= views::association_of(table, row, j) {
+            if !declared::is_known(declared::kind_of(table, row, j)) {
+                return j;
+            }
+        }
+        j += 1;
+    }
+    n
+}
+
+// 15: protected, or a property that is needed and not known.
+fn print_need(fd: i32, table: &[u32], row: ItemRow) {
+    if views::record_word(table, row, 12) != 0 {
+        return say(fd, b"is protected");
+    }
+    let kind = declared::kind_of(table, row, first_unknown(table, row));
+    if kind == 0 {
+        return say(
+            fd,
+            b"needs a property that it names by index 0, which is none",
+        );
+    }
+    say(fd, b"needs a property of type ");
+    words::print_kind(fd, kind);
+    say(fd, b", which this reader does not know");
+}
+
+// The place among an item's properties of the first `ispe` from a place on, or how many properties there are.
+fn size_from(table: &[u32], row: ItemRow, from: usize) -> usize {
+    let n = declared::property_count(table, row);
+    if n < from {
+        return n;
+    }
+    let mut j = from;
+    while j < n {
+        if declared::kind_of(table, row, j) == ISPE {
+            return j;
+        }
+        j += 1;
+    }
+    n
+}
+
+// The type of an item's first turn or crop, 0 where it has none.
+fn first_transform(table: &[u32], row: ItemRow) -> u32 {
+    let n = declared::property_count(table, row);
+    let mut j: usize = 0;
+    while j < n {
+        let kind = declared::kind_of(table, row, j);
+        if declared::is_transform(kind) {
+            return kind;
+        }
+        j += 1;
+    }
+    0
+}
+
+// 16: no size, several, or one behind a turn or crop.
+fn print_size(fd: i32, table: &[u32], row: ItemRow) {
+    let n = declared::property_count(table, row);
+    let first = size_from(table, row, 0);
+    if n <= first {
+        return say(fd, b"does not say its size (it has no `ispe`)");
+    }
+    if size_from(table, row, first + 1) < n {
+        return say(fd, b"says its size more than once (`ispe`)");
+    }
+    say(fd, b"says its size (`ispe`) only after its `");
+    words::print_kind(fd, first_transform(table, row));
+    say(fd, b"`");
+}
+
+// Whether an ID names a picture.
+fn is_picture(table: &[u32], id: ItemId) -> bool {
+    let found = views::row_named(table, id, ItemRow(0));
+    match found {
+        FoundRow::Nothing => false,
+        FoundRow::At(row) => views::is_image(views::type_of(table, row)),
+    }
+}
+
+// The place of the first input that is no picture, or how many inputs there are.
+fn first_opaque(table: &[u32], row: ItemRow) -> usize {
+    let n = views::record_word(table, row, 6) as usize;
+    let mut j: usize = 0;
+    while j < n {
+        if !is_picture(table, views::target_of(table, row, j)) {
+            return j;
+        }
+        j += 1;
+    }
+    n
+}
+
+// 17: inputs where there may be none, none where there must be, one that is no picture; else their number or the body.
+fn print_inputs(fd: i32, table: &[u32], row: ItemRow) {
+    let n = views::record_word(table, row, 6) as usize;
+    if !views::is_derived(views::type_of(table, row)) {
+        say(fd, b"has inputs, and its type ");
+        words::print_kind(fd, views::type_of(table, row));
+        return say(fd, b" is not made from others");
+    }
+    if n == 0 {
+        return say(fd, b"is to be made from others, and has no inputs");
+    }
+    let j = first_opaque(table, row);
+    if j < n {
+        say(fd, b"is made from item ");
+        let id = views::target_of(table, row, j);
+        io::print_decimal(fd, id.0 as u64);
+        return say(fd, b", which is no picture");
+    }
+    say(fd, b"has a wrong number of inputs, or a damaged body");
+}
+
+fn print_of(fd: i32, table: &[u32], row: ItemRow, total: u64, number: u32) {
+    match number {
+        12 => print_primary(fd, table, row),
+        13 => print_method(fd, table, row),
+        14 => print_reach(fd, table, row, total),
+        15 => print_need(fd, table, row),
+        16 => print_size(fd, table, row),
+        17 => print_inputs(fd, table, row),
+        22 => print_type(fd, table, row),
+        _ => words::print_words(fd, number),
+    }
+}
+
+fn print_listed(fd: i32, table: &[u32], total: u64, f: Refusal) {
+    let id = ItemId((f.place % 4294967296) as u32);
+    let found = views::row_named(table, id, ItemRow(0));
+    match found {
+        FoundRow::At(row) => print_of(fd, table, row, total, f.number),
+        // 12 and 21.
+        FoundRow::Nothing => say(fd, b"is not listed"),
+    }
+}
+
+// What follows the item's name.
+pub fn print_cause(fd: i32, head: &[u8], total: u64, f: Refusal) {
+    let mut table = new_table();
+    let mut rows = new_rows();
+    let r = reading::read_file(head, total, &mut table, &mut rows);
+    match r {
+        FileRead::Refused(_) => words::print_words(fd, f.number),
+        FileRead::Is {
+            idat: _,
+            idat_end: _,
+        } => print_listed(fd, &table, total, f),
+    }
+}
