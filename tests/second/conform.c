@@ -1,11 +1,14 @@
-/* Holds the second reading to the answers of the conformance folder, whose path is the first argument. */
+/* Holds the second reading to the answers of the conformance folder, whose path is the argument: every line that its
+ * script `later/lines` prints for LEVEL. */
+#define _GNU_SOURCE
 #include <stdio.h>
 #include <stdlib.h>
 #include <string.h>
 
+#include "level.h"
 #include "second.h"
 
-enum { WORDS = 11280, PAST = 20, LIST = 300, LINE = 8192 };
+enum { WORDS = 11280, PAST = 20, LIST = 300, LINE = 1 << 16 };
 
 static uint8_t head[1 << 17];
 static size_t head_len;
@@ -167,16 +170,25 @@ static int ask(uint64_t total, const char *question, const char *arguments, char
     return past_is_clean(!strcmp(question, "sources") && out[0] == 0 ? out[2] : 0);
 }
 
-static int load(const char *folder, const char *name)
+static int read_whole(const char *path, uint8_t *bytes, size_t room, size_t *length)
 {
-    char path[1024];
-    snprintf(path, sizeof path, "%s/heads/%s.bin", folder, name);
     FILE *file = fopen(path, "rb");
     if (!file)
         return 0;
-    head_len = fread(head, 1, sizeof head, file);
+    *length = fread(bytes, 1, room, file);
     fclose(file);
     return 1;
+}
+
+/* A name without a file among the later ones is one of document 01's. */
+static int load(const char *folder, const char *name)
+{
+    char path[1024];
+    snprintf(path, sizeof path, "%s/later/heads/%s.bin", folder, name);
+    if (read_whole(path, head, sizeof head, &head_len))
+        return 1;
+    snprintf(path, sizeof path, "%s/heads/%s.bin", folder, name);
+    return read_whole(path, head, sizeof head, &head_len);
 }
 
 /* Fields are parted by single tabs and may be empty. */
@@ -194,30 +206,37 @@ static int split(char *line, char *field[5])
     return 1;
 }
 
+static void hold(char *field[5])
+{
+    static char text[LINE];
+    int clean = ask(strtoull(field[1], NULL, 10), field[2], field[3], text);
+    lines++;
+    if (clean && !strcmp(text, field[4]))
+        return;
+    if (wrong++ < 20)
+        printf("%s %s %s(%s): %s, not %s%s\n", field[0], field[1], field[2], field[3], text, field[4],
+               clean ? "" : ", and wrote what it must not");
+}
+
 int main(int argc, char **argv)
 {
-    static char line[LINE], text[LINE], loaded[256];
-    char path[1024], *field[5];
+    static char line[LINE], loaded[256];
+    char command[1100], *field[5];
     if (argc != 2)
         return fprintf(stderr, "usage: conform FOLDER\n"), 2;
-    snprintf(path, sizeof path, "%s/expected.tsv", argv[1]);
-    FILE *expected = fopen(path, "r");
+    snprintf(command, sizeof command, "'%s/later/lines' %d", argv[1], LEVEL);
+    FILE *expected = popen(command, "r");
     if (!expected)
-        return fprintf(stderr, "cannot open %s\n", path), 2;
+        return fprintf(stderr, "cannot run %s\n", command), 2;
     make_constants();
     while (fgets(line, sizeof line, expected)) {
         if (!split(line, field) || (strcmp(field[0], loaded) && !load(argv[1], field[0])))
             return fprintf(stderr, "cannot read line %lu\n", lines + 1), 2;
         snprintf(loaded, sizeof loaded, "%s", field[0]);
-        int clean = ask(strtoull(field[1], NULL, 10), field[2], field[3], text);
-        lines++;
-        if (!clean || strcmp(text, field[4])) {
-            if (wrong++ < 20)
-                printf("%s %s %s(%s): %s, not %s%s\n", field[0], field[1], field[2], field[3], text, field[4],
-                       clean ? "" : ", and wrote past the end");
-        }
+        hold(field);
     }
-    fclose(expected);
-    printf("%lu answers, %lu wrong\n", lines, wrong);
+    if (pclose(expected) != 0)
+        return fprintf(stderr, "%s failed\n", command), 2;
+    printf("level %d: %lu answers, %lu wrong\n", LEVEL, lines, wrong);
     return wrong != 0 || lines == 0;
 }

@@ -1,6 +1,7 @@
-/* A second reading of document 01. One pass over the bytes fills the table and notes, per item, the fault that
- * rules 13 to 16 would give; the judging then goes over the notes in the stated order. No heap. */
+/* A second reading of document 01, and of document 02 up to Q-LEVEL. One pass over the bytes fills the table and notes,
+ * per item, the fault that rules 13 to 16 would give; the judging then goes over the notes in the stated order. No heap. */
 #include "second.h"
+#include "level.h"
 
 #include <assert.h>
 #include <stdbool.h>
@@ -1175,13 +1176,16 @@ struct point {
     uint32_t x, y;
 };
 
+/* The axis of imir that exchanges top and bottom: Q-1 takes the 2022 wording for all files, document 01 the opposite. */
+enum { TOP_BOTTOM = LEVEL >= 1 ? 0 : 1 };
+
 static struct point go_back(const struct step *step, struct point p)
 {
     uint32_t right = step->size.width - 1, bottom = step->size.height - 1;
     if (step->kind == CLAP)
         return (struct point){p.x + step->left, p.y + step->top};
     if (step->kind == IMIR)
-        return step->turn == 0 ? (struct point){right - p.x, p.y} : (struct point){p.x, bottom - p.y};
+        return step->turn == TOP_BOTTOM ? (struct point){p.x, bottom - p.y} : (struct point){right - p.x, p.y};
     switch (step->turn) {
     case 1: return (struct point){right - p.y, p.x};
     case 2: return (struct point){right - p.x, bottom - p.y};

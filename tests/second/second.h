@@ -1,4 +1,4 @@
-/* A second reading of document 01, written from its text alone, to hold the proved one against.
+/* A second reading of documents 01 and 02, written from their text alone, to hold the proved one against.
  * Same call shape as include/still.h: out[0] is the refusal number or 0, out[1] its place,
  * out[2..7] the answer's values in the document's order, the rest 0. */
 #ifndef SECOND_H

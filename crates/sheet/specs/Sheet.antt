@@ -110,10 +110,10 @@ sheet =
     ∷ (from (turned (irotBox 1 ∷ [])) 0 0 0 says ok (1 ∷ 0 ∷ 639 ∷ 0 ∷ 1 ∷ []))
     -- e: `irot` 3: from (0,479)
     ∷ (from (turned (irotBox 3 ∷ [])) 0 0 0 says ok (1 ∷ 0 ∷ 0 ∷ 479 ∷ 1 ∷ []))
-    -- f: `irot` 1 then `imir` 0: (0,0) from (639,479)
-    ∷ (from (turned (irotBox 1 ∷ imirBox 0 ∷ [])) 0 0 0 says ok (1 ∷ 0 ∷ 639 ∷ 479 ∷ 1 ∷ []))
-    -- g: the other order: (0,0)
-    ∷ (from (turned (imirBox 0 ∷ irotBox 1 ∷ [])) 0 0 0 says ok (1 ∷ 0 ∷ 0 ∷ 0 ∷ 1 ∷ []))
+    -- f, by Q-1: "(0,0) from (0,0) for `irot` 1 then `imir` 0"
+    ∷ (from (turned (irotBox 1 ∷ imirBox 0 ∷ [])) 0 0 0 says ok (1 ∷ 0 ∷ 0 ∷ 0 ∷ 1 ∷ []))
+    -- g, by Q-1: "from (639,479) for the other order"
+    ∷ (from (turned (imirBox 0 ∷ irotBox 1 ∷ [])) 0 0 0 says ok (1 ∷ 0 ∷ 639 ∷ 479 ∷ 1 ∷ []))
     -- h: `clap` 601/1 wide in 640, offset 1/2: left 20
     ∷ (from (turned (clapBox (0 ∷ 0 ∷ 0 ∷ 1 ∷ 0 ∷ 0 ∷ 0 ∷ 2 ∷ []) ∷ [])) 0 0 0 says ok (1 ∷ 0 ∷ 20 ∷ 0 ∷ 1 ∷ []))
     -- i: -1/2: 19
