@@ -1,6 +1,6 @@
 -- The words of the questions.
 --   same s t       whether two words have the same bytes
---   wordOf s       which question a word asks; Unknown where it is none of the six
+--   wordOf s       which question a word asks; Unknown where it is none of them;   laterWordOf    the words that came with document 02
 --   numbersOf w    how many numbers follow: an item's ID, then x and y of a pixel, or the number of a property
 use Prim.Native.Nat.{ℕ}
 use mathlib.Core.List.{List, [], _∷_}
@@ -8,7 +8,7 @@ use mathlib.Core.Bool.{Bool, true, false, _&&_}
 use lib.Dec.{eqb}
 use Rattle.fields.specs.Choice.{pick}
 use Rattle.arguments.specs.declared.Word.{Word}
-use Rattle.arguments.specs.declared.Word.the-variants.{Verdict, Why, Size, Trace, Sources, Property, Unknown}
+use Rattle.arguments.specs.declared.Word.the-variants.{Verdict, Why, Size, Trace, Sources, Property, Crop, Unknown}
 
 unfoldable pub same : List ℕ → List ℕ → Bool
 same [] [] = true
@@ -35,6 +35,12 @@ sources = 115 ∷ 111 ∷ 117 ∷ 114 ∷ 99 ∷ 101 ∷ 115 ∷ []
 abbrev pub property : List ℕ
 property = 112 ∷ 114 ∷ 111 ∷ 112 ∷ 101 ∷ 114 ∷ 116 ∷ 121 ∷ []
 
+abbrev pub crop : List ℕ
+crop = 99 ∷ 114 ∷ 111 ∷ 112 ∷ []
+
+unfoldable pub laterWordOf : List ℕ → Word
+laterWordOf s = pick (same s crop) Crop Unknown
+
 unfoldable pub wordOf : List ℕ → Word
 wordOf s =
     pick (same s verdict) Verdict
@@ -42,7 +48,7 @@ wordOf s =
     (pick (same s size) Size
     (pick (same s trace) Trace
     (pick (same s sources) Sources
-    (pick (same s property) Property Unknown)))))
+    (pick (same s property) Property (laterWordOf s))))))
 
 abbrev pub numbersOf : Word → ℕ
 numbersOf Verdict = 0
@@ -51,4 +57,5 @@ numbersOf Size = 1
 numbersOf Trace = 3
 numbersOf Sources = 1
 numbersOf Property = 2
+numbersOf Crop = 1
 numbersOf Unknown = 0

@@ -1,7 +1,7 @@
 // What the arguments of a program say: numbers, and the words of the questions.
 ghost use mathlib.Core.Path.{_≡_};
 ghost use Rattle.arguments.specs.Number.{digitOf, numberOf};
-ghost use Rattle.arguments.specs.Word.{same, wordOf, numbersOf};
+ghost use Rattle.arguments.specs.Word.{same, wordOf, laterWordOf, numbersOf};
 
 pub enum Number {
     Is(u32),
@@ -68,6 +68,7 @@ pub enum Word {
     Trace,
     Sources,
     Property,
+    Crop,
     Unknown,
 }
 
@@ -93,6 +94,16 @@ pub fn word_of(s: &[u8]) -> Word
     if is_word(s, b"property") {
         return Word::Property;
     }
+    later_word_of(s)
+}
+
+// The words that came with document 02.
+fn later_word_of(s: &[u8]) -> Word
+    ensures { λ r. ⌜ r ≡ laterWordOf (now (s .entry)) ⌝ }
+{
+    if is_word(s, b"crop") {
+        return Word::Crop;
+    }
     Word::Unknown
 }
 
@@ -107,6 +118,7 @@ pub fn numbers_of(w: Word) -> usize
         Word::Trace => 3,
         Word::Sources => 1,
         Word::Property => 2,
+        Word::Crop => 1,
         Word::Unknown => 0,
     }
 }

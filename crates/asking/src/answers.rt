@@ -12,7 +12,7 @@ use table::ItemId;
 use words::say;
 
 // `refused`, number, place, and the sentence, in any answer's place.
-fn print_refused(head: &[u8], total: u64, f: Refusal) {
+pub fn print_refused(head: &[u8], total: u64, f: Refusal) {
     say(1, b"\trefused");
     print_field(f.number as u64);
     print_field(f.place);

@@ -1,5 +1,6 @@
 // The asking program: a still on standard input, a question in the arguments, one line of fields parted by tabs as the answer.
 mod answers;
+mod crop;
 
 use arguments::Number;
 use arguments::Word;
@@ -70,6 +71,7 @@ fn print_answer(q: Question, head: &[u8], total: u64) {
         Word::Trace => answers::print_trace(head, total, &mut table, q.id, q.x, q.y),
         Word::Sources => answers::print_sources(head, total, &mut table, q.id),
         Word::Property => answers::print_property(head, total, &mut table, q.id, q.x),
+        Word::Crop => crop::print_crop(head, total, &mut table, q.id),
         Word::Unknown => print_use(),
     }
 }

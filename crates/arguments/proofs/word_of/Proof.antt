@@ -32,10 +32,10 @@ returns-6 c = simp (sym (c .before .before .before .before .before .before .befo
 
 returns-7 : tie.Need-returns-7
 unfolding wordOf pick
-returns-7 c = simp (sym (c .before .before .before .before .before .before .before .before .before .before .before .before .before .before .before .before .is-word .ensures) ∙ c .before .before .before .before .before .before .before .before .before .before .before .before .before .before .before .if1 .left, sym (c .before .before .before .before .before .before .before .before .before .before .before .before .before .is-word2 .ensures) ∙ c .before .before .before .before .before .before .before .before .before .before .before .before .if2 .left, sym (c .before .before .before .before .before .before .before .before .before .before .is-word3 .ensures) ∙ c .before .before .before .before .before .before .before .before .before .if3 .left, sym (c .before .before .before .before .before .before .before .is-word4 .ensures) ∙ c .before .before .before .before .before .before .if4 .left, sym (c .before .before .before .before .is-word5 .ensures) ∙ c .before .before .before .if5 .left, sym (c .before .is-word6 .ensures) ∙ c .if6 .left)
+returns-7 c = let b = c .before in c .later-word-of .ensures ∙ simp (sym (b .before .before .before .before .before .before .before .before .before .before .before .before .before .before .before .before .is-word .ensures) ∙ b .before .before .before .before .before .before .before .before .before .before .before .before .before .before .before .if1 .left, sym (b .before .before .before .before .before .before .before .before .before .before .before .before .before .is-word2 .ensures) ∙ b .before .before .before .before .before .before .before .before .before .before .before .before .if2 .left, sym (b .before .before .before .before .before .before .before .before .before .before .is-word3 .ensures) ∙ b .before .before .before .before .before .before .before .before .before .if3 .left, sym (b .before .before .before .before .before .before .before .is-word4 .ensures) ∙ b .before .before .before .before .before .before .if4 .left, sym (b .before .before .before .before .is-word5 .ensures) ∙ b .before .before .before .if5 .left, sym (b .before .is-word6 .ensures) ∙ b .if6 .left)
 
 pub word-of-spec : {M : Type 1} → statement M
 word-of-spec =
     tie.close (tie.spec (search needs) (λ c κs. search needs) returns (search needs) (λ c κs. search needs) returns-2
     (search needs) (λ c κs. search needs) returns-3 (search needs) (λ c κs. search needs) returns-4 (search needs)
-    (λ c κs. search needs) returns-5 (search needs) (λ c κs. search needs) returns-6 returns-7)
+    (λ c κs. search needs) returns-5 (search needs) (λ c κs. search needs) returns-6 (search needs) returns-7)
