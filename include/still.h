@@ -1,7 +1,7 @@
-/* The still reader's five questions, for C and C++. Link libstill_c.a, which `rt staticlib still_c` writes to target/staticlib/
+/* The still reader's seven questions, for C and C++. Link libstill_c.a, which `rt staticlib still_c` writes to target/staticlib/
  * (x86-64 Linux; it needs only memcpy and memset). examples/ask_still.c shows a whole program.
  *
- * What a caller lends:
+ * What a caller lends (still_transforms reads no file and is lent out alone):
  *   head, head_len    the file's first bytes; at most STILL_HEAD_MAX, else refusal 2
  *   total             the length of the whole file
  *   table, table_len  at least STILL_TABLE_WORDS words, else refusal 1; what stands in it does not matter
@@ -14,8 +14,8 @@
  *
  * What every call leaves:
  *   out[0], out[1]    the refusal's number and place, and the rest of out 0; or 0 and 0, then the answer's values as told below, and the rest 0
- *   table             after refusal 1 as it was; after 2 to 20 its first STILL_TABLE_WORDS words are 0; otherwise they are the file's.
- *                     Words behind them are never written.
+ *   table             after refusal 1 as it was; after 2 to 20 its first STILL_TABLE_WORDS words are 0; otherwise, 21 to 26 too, they are
+ *                     the file's. Words behind them are never written.
  */
 #ifndef STILL_H
 #define STILL_H
@@ -34,7 +34,8 @@
 #define STILL_MAX_TARGETS 2048
 #define STILL_MAX_EXTENTS 512
 
-/* out[0]. The place, out[1], is 0 for 1, 2, 4 and 5; for 3 and 6 to 11 where the box begins in the head; from 12 on the item's ID. */
+/* out[0]. The place, out[1], is 0 for 1, 2, 4, 5 and 27; for 3 and 6 to 11 where the box begins in the head; for 12 to 20 the item's ID; for
+ * 21 to 26 the ID that was asked for. */
 enum still_refusal {
     STILL_ACCEPTED = 0,
     STILL_TABLE_TOO_SHORT = 1,       /* the table that was lent is too short */
@@ -61,11 +62,16 @@ enum still_refusal {
     STILL_NO_PICTURE = 22,           /* that item is no picture */
     STILL_OUTSIDE_THE_PICTURE = 23,  /* that pixel is outside the picture */
     STILL_LIST_TOO_SHORT = 24,       /* the list that was lent is too short */
-    STILL_NO_SUCH_PROPERTY = 25      /* the item has no property with that number */
+    STILL_NO_SUCH_PROPERTY = 25,     /* the item has no property with that number */
+    STILL_HAS_A_CROP = 26,           /* the item has a crop, which no orientation says */
+    STILL_NO_ORIENTATION = 27        /* an orientation is one of 1 to 8; no file was read */
 };
 
 /* out[2] of still_trace */
 enum still_end { STILL_PIXEL = 1, STILL_FILL = 2 };
+
+/* out[3] and out[5] of still_transforms */
+enum still_transform { STILL_IROT = 1, STILL_IMIR = 2 };
 
 #ifdef __cplusplus
 extern "C" {
@@ -93,6 +99,18 @@ void still_sources(const uint8_t *head, size_t head_len, uint64_t total, uint32_
  * all lie in the head. Both are 0 where the association names no property. */
 void still_property(const uint8_t *head, size_t head_len, uint64_t total, uint32_t *table, size_t table_len, uint32_t item, uint32_t k,
                     uint64_t out[STILL_OUT]);
+
+/* The Exif orientation that does what the item's own turns and mirrors do, however many they are: out[2], 1 to 8. Exactly one number fits them
+ * for all widths and heights. The turns of the pictures that the item is made from do not count. An item with a crop, also one that cuts
+ * nothing, is refused by 26 after 21 and 22. */
+void still_orientation(const uint8_t *head, size_t head_len, uint64_t total, uint32_t *table, size_t table_len, uint32_t item,
+                       uint64_t out[STILL_OUT]);
+
+/* The shortest list of transforms that does what an orientation asks, `irot` first: out[2] how many, 0 to 2; out[3], out[4] the kind and the
+ * value of the first; out[5], out[6] those of the second. The value is what the property box holds: `irot` 1 to 3 quarter turns to the left,
+ * `imir` 0 exchanges top and bottom, 1 left and right. The orientation of an item with this list is the number again. No file is read and
+ * there is no table: 27 at place 0 is the only refusal. */
+void still_transforms(uint32_t orientation, uint64_t out[STILL_OUT]);
 
 #ifdef __cplusplus
 }

@@ -37,6 +37,34 @@ static void kept(const char *what, const uint32_t *words, size_t n, uint32_t w)
     }
 }
 
+/* Every orientation's list as kind and value, 0 where there is none; what is no orientation; and that no table is needed. */
+static void transforms(void)
+{
+    static const uint64_t lists[8][5] = {{0},
+                                         {1, STILL_IMIR, 1},
+                                         {1, STILL_IROT, 2},
+                                         {1, STILL_IMIR, 0},
+                                         {2, STILL_IROT, 3, STILL_IMIR, 1},
+                                         {1, STILL_IROT, 3},
+                                         {2, STILL_IROT, 1, STILL_IMIR, 1},
+                                         {1, STILL_IROT, 1}};
+    uint32_t n;
+    for (n = 1; n <= 8; n++) {
+        still_transforms(n, out);
+        if (out[0] != 0 || out[1] != 0 || memcmp(out + 2, lists[n - 1], sizeof lists[0]) != 0 || out[7] != 0) {
+            printf("wrong: transforms of %u\n", (unsigned)n);
+            wrong = 1;
+        }
+        memset(out, 7, sizeof out);
+    }
+    still_transforms(0, out);
+    told("transforms of 0", STILL_NO_ORIENTATION, 0, 0, 0);
+    still_transforms(9, out);
+    told("transforms of 9", STILL_NO_ORIENTATION, 0, 0, 0);
+    still_transforms(UINT32_MAX, out);
+    told("transforms of the greatest number", STILL_NO_ORIENTATION, 0, 0, 0);
+}
+
 int main(int argc, char **argv)
 {
     FILE *file = argc == 2 ? fopen(argv[1], "rb") : NULL;
@@ -54,6 +82,8 @@ int main(int argc, char **argv)
     told("sources, nothing lent", STILL_TABLE_TOO_SHORT, 0, 0, 0);
     still_property(NULL, 0, 0, NULL, 0, 1, 1, out);
     told("property, nothing lent", STILL_TABLE_TOO_SHORT, 0, 0, 0);
+    still_orientation(NULL, 0, 0, NULL, 0, 1, out);
+    told("orientation, nothing lent", STILL_TABLE_TOO_SHORT, 0, 0, 0);
     still_verdict(head, n, n, table, STILL_TABLE_WORDS - 1, out);
     told("a table of one word less", STILL_TABLE_TOO_SHORT, 0, 0, 0);
     kept("refusal 1 writes nothing", table, TABLE, 0x09090909);
@@ -75,5 +105,13 @@ int main(int argc, char **argv)
     told("property", 0, 0, 201, 9);
     still_trace(head, n, n, table, TABLE, 2, 480, 0, out);
     told("trace outside", STILL_OUTSIDE_THE_PICTURE, 2, 0, 0);
+    still_orientation(head, n, n, table, TABLE, 2, out);
+    told("orientation", 0, 0, 8, 0);
+    still_orientation(head, n, n, table, TABLE, 1, out);
+    told("orientation of an item without transforms", 0, 0, 1, 0);
+    still_orientation(head, n, n, table, TABLE, 3, out);
+    told("orientation of no item", STILL_NO_SUCH_ITEM, 3, 0, 0);
+    kept("words behind the file's table", table + STILL_TABLE_WORDS, 20, 0x09090909);
+    transforms();
     return wrong;
 }

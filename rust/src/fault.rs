@@ -11,8 +11,16 @@ macro_rules! faults {
         }
 
         impl Fault {
-            /// All of them, in the order of their numbers, from 1.
-            pub const ALL: [Fault; 25] = [$(Fault::$name),*];
+            /// All of them, in the order of their numbers.
+            pub const ALL: [Fault; [$($number),*].len()] = [$(Fault::$name),*];
+
+            /// The fault with a number, if there is one.
+            pub fn of(number: u64) -> Option<Fault> {
+                match number {
+                    $($number => Some(Fault::$name),)*
+                    _ => None,
+                }
+            }
 
             pub fn words(self) -> &'static str {
                 match self {
@@ -49,9 +57,11 @@ faults! {
     OutsideThePicture = 23, "that pixel is outside the picture";
     ListTooShort = 24, "the list that was lent is too short";
     NoSuchProperty = 25, "the item has no property with that number";
+    HasACrop = 26, "the item has a crop, which no orientation says";
+    NoOrientation = 27, "an orientation is one of 1 to 8";
 }
 
-/// A refusal and its place: 0 for 1, 2, 4 and 5; where the box begins in the head for 3 and 6 to 11; the item's ID from 12 on.
+/// A refusal and its place: 0 for 1, 2, 4, 5 and 27; where the box begins in the head for 3 and 6 to 11; the item's ID for 12 to 20; the ID that was asked for for 21 to 26.
 #[derive(Clone, Copy, Debug, PartialEq, Eq)]
 pub struct Refusal {
     pub fault: Fault,

@@ -1,6 +1,6 @@
-//! The still reader's five questions. Every answer is proved for all bytes, numbers and lengths; this package only turns the archive's eight numbers into Rust's types.
+//! The still reader's seven questions. Every answer is proved for all bytes, numbers and lengths; this package only turns the archive's eight numbers into Rust's types.
 //!
-//! A question is asked of a [`Still`], the file's first bytes and its whole length, and is lent a [`Table`].
+//! A question is asked of a [`Still`], the file's first bytes and its whole length, and is lent a [`Table`]; only [`transforms`] reads no file.
 //! The archive is for x86-64 Linux and is written by `rt staticlib still_c`; without it only [`Fault`] is here.
 
 mod fault;
@@ -9,7 +9,7 @@ mod questions;
 
 pub use fault::{Fault, Refusal};
 #[cfg(still_linked)]
-pub use questions::{End, ItemId, Size, Still, Table, Trace, Verdict};
+pub use questions::{transforms, End, ItemId, Size, Still, Table, Trace, Transform, Verdict};
 
 /// The most bytes of a file that a question is lent.
 pub const HEAD_MAX: usize = 65_536;

@@ -9,6 +9,8 @@ extern "C" {
     fn still_trace(head: *const u8, head_len: usize, total: u64, table: *mut u32, table_len: usize, item: u32, x: u32, y: u32, out: *mut [u64; OUT]);
     fn still_sources(head: *const u8, head_len: usize, total: u64, table: *mut u32, table_len: usize, item: u32, list: *mut u32, list_len: usize, out: *mut [u64; OUT]);
     fn still_property(head: *const u8, head_len: usize, total: u64, table: *mut u32, table_len: usize, item: u32, k: u32, out: *mut [u64; OUT]);
+    fn still_orientation(head: *const u8, head_len: usize, total: u64, table: *mut u32, table_len: usize, item: u32, out: *mut [u64; OUT]);
+    fn still_transforms(orientation: u32, out: *mut [u64; OUT]);
 }
 
 // A question with the numbers of its own: the answer's values, or the refusal.
@@ -24,7 +26,7 @@ macro_rules! ask {
 fn told(out: [u64; OUT]) -> Result<[u64; OUT - 2], Refusal> {
     match out {
         [0, 0, values @ ..] => Ok(values),
-        [number, place, ..] => Err(Refusal { fault: Fault::ALL[number as usize - 1], place }),
+        [number, place, ..] => Err(Refusal { fault: Fault::of(number).expect("every number that the archive gives is a fault's"), place }),
     }
 }
 
@@ -85,6 +87,15 @@ pub struct Trace {
     pub passed: u32,
 }
 
+/// A transform by the value that its box holds.
+#[derive(Clone, Copy, Debug, PartialEq, Eq)]
+pub enum Transform {
+    /// So many quarter turns to the left.
+    Irot(u8),
+    /// 0 exchanges top and bottom, 1 left and right.
+    Imir(u8),
+}
+
 /// A file: its first bytes, at most [`HEAD_MAX`], and its whole length.
 #[derive(Clone, Copy, Debug)]
 pub struct Still<'a> {
@@ -125,5 +136,28 @@ impl<'a> Still<'a> {
     pub fn property(self, table: &mut Table, item: ItemId, k: u32) -> Result<&'a [u8], Refusal> {
         let [offset, length, ..] = ask!(still_property, self, table, item.0, k)?.map(|n| n as usize);
         Ok(&self.head[offset..offset + length])
+    }
+
+    /// The Exif orientation, 1 to 8, that does what the item's own turns and mirrors do, however many they are. An item with a crop has none.
+    pub fn orientation(self, table: &mut Table, item: ItemId) -> Result<u8, Refusal> {
+        let [number, ..] = ask!(still_orientation, self, table, item.0)?;
+        Ok(number as u8)
+    }
+}
+
+/// The shortest list of transforms that does what an orientation asks, `irot` first. No file is read: the one refusal is that the number is none of 1 to 8.
+pub fn transforms(orientation: u32) -> Result<[Option<Transform>; 2], Refusal> {
+    let mut out = [0; OUT];
+    // SAFETY: `out` has its eight numbers.
+    unsafe { still_transforms(orientation, &mut out) };
+    let [_, kind, value, next_kind, next_value, _] = told(out)?;
+    Ok([transform(kind, value), transform(next_kind, next_value)])
+}
+
+fn transform(kind: u64, value: u64) -> Option<Transform> {
+    match kind {
+        1 => Some(Transform::Irot(value as u8)),
+        2 => Some(Transform::Imir(value as u8)),
+        _ => None,
     }
 }

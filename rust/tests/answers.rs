@@ -1,6 +1,6 @@
 //! The questions of crates/answers, with their right answers, through the archive. Digests of tables are not made here: those lines are passed over.
 #![cfg(still_linked)]
-use still::{End, ItemId, Refusal, Still, Table};
+use still::{transforms, End, ItemId, Refusal, Still, Table, Transform};
 
 static QUESTIONS: &[u8] = include_bytes!("../../crates/answers/stdin");
 static ANSWERS: &str = include_str!("../../crates/answers/stdout");
@@ -37,6 +37,16 @@ fn numbers(list: &[u32]) -> String {
     list.iter().map(u32::to_string).collect::<Vec<_>>().join(" ")
 }
 
+// How many there are, then each by type and value.
+fn list(transforms: [Option<Transform>; 2]) -> String {
+    let said = transforms.into_iter().flatten().map(|t| match t {
+        Transform::Irot(value) => format!(" irot {value}"),
+        Transform::Imir(value) => format!(" imir {value}"),
+    });
+    let said: Vec<_> = said.collect();
+    said.len().to_string() + &said.concat()
+}
+
 // The question and its answer as they stand in a line.
 fn answer(still: Still, table: &mut Table, kind: u32, id: u32, x: u32, y: u32) -> (String, Result<String, Refusal>) {
     let item = ItemId(id);
@@ -48,7 +58,9 @@ fn answer(still: Still, table: &mut Table, kind: u32, id: u32, x: u32, y: u32) -
             still.trace(table, item, x, y).map(|t| format!("{} {}", if t.end == End::Pixel { "pixel" } else { "fill" }, numbers(&[t.item.0, t.x, t.y, t.passed]))),
         ),
         4 => (format!("sources\t{id} {x}"), still.sources(table, item, &mut vec![9; x as usize]).map(numbers)),
-        _ => (format!("prop\t{id} {x}"), still.property(table, item, x).map(|p| numbers(&[p.len() as u32, sum_of(p)]))),
+        5 => (format!("prop\t{id} {x}"), still.property(table, item, x).map(|p| numbers(&[p.len() as u32, sum_of(p)]))),
+        6 => (format!("orientation\t{id}"), still.orientation(table, item).map(|n| n.to_string())),
+        _ => (format!("transforms\t{id}"), transforms(id).map(list)),
     }
 }
 

@@ -28,6 +28,14 @@ fn faults() {
 }
 
 #[test]
+fn faults_by_number() {
+    for fault in Fault::ALL {
+        assert_eq!(Fault::of(fault as u64), Some(fault));
+    }
+    assert_eq!((Fault::of(0), Fault::of(u64::MAX)), (None, None));
+}
+
+#[test]
 fn limits() {
     defines("TABLE_WORDS", still::TABLE_WORDS);
     defines("HEAD_MAX", still::HEAD_MAX);

@@ -1,15 +1,17 @@
 //! The questions on a file of two items: a picture of 640 × 480, and a copy of it turned a quarter to the left.
 #![cfg(still_linked)]
-use still::{End, Fault, ItemId, Refusal, Size, Still, Table, Trace, Verdict, TABLE_WORDS};
+use still::{transforms, End, Fault, ItemId, Refusal, Size, Still, Table, Trace, Transform, Verdict, TABLE_WORDS};
 
 static FILE: &[u8] = include_bytes!("../../crates/listing/stdin");
+// README's example: item 9 has a crop, item 8 is turned to the right and then mirrored.
+static CROPPED: &[u8] = include_bytes!("../../docs/example.heif");
 
 fn refused<T>(fault: Fault, place: u64) -> Result<T, Refusal> {
     Err(Refusal { fault, place })
 }
 
 #[test]
-fn the_five_answers() {
+fn the_answers() {
     let (still, mut table, mut list) = (Still::of(FILE), Table::new(), [7; 3]);
     let turned = ItemId(2);
     assert_eq!(still.verdict(&mut table), Ok(Verdict { items: 2, primary: turned }));
@@ -19,6 +21,8 @@ fn the_five_answers() {
     assert_eq!(still.sources(&mut table, turned, &mut list), Ok(&[1][..]));
     assert_eq!(list, [1, 7, 7]);
     assert_eq!(still.property(&mut table, turned, 2), Ok(&b"\0\0\0\x09irot\x01"[..]));
+    assert_eq!(still.orientation(&mut table, turned), Ok(8));
+    assert_eq!(still.orientation(&mut table, ItemId(1)), Ok(1));
 }
 
 #[test]
@@ -35,7 +39,37 @@ fn what_is_asked_wrongly() {
     assert_eq!(still.trace(&mut table, ItemId(2), 480, 0), refused(Fault::OutsideThePicture, 2));
     assert_eq!(still.sources(&mut table, ItemId(2), &mut []), refused(Fault::ListTooShort, 2));
     assert_eq!(still.property(&mut table, ItemId(2), 3), refused(Fault::NoSuchProperty, 2));
+    assert_eq!(still.orientation(&mut table, ItemId(3)), refused(Fault::NoSuchItem, 3));
     assert_eq!(table.words()[5], 2, "the table is the file's");
+}
+
+#[test]
+fn a_crop_has_no_orientation() {
+    let (still, mut table) = (Still::of(CROPPED), Table::new());
+    assert_eq!(still.orientation(&mut table, ItemId(9)), refused(Fault::HasACrop, 9));
+    assert_eq!(table.words()[0], 10, "the table is the file's");
+    assert_eq!(still.orientation(&mut table, ItemId(8)), Ok(5));
+}
+
+#[test]
+fn every_orientation_as_transforms() {
+    use Transform::{Imir, Irot};
+    let lists = [
+        [None, None],
+        [Some(Imir(1)), None],
+        [Some(Irot(2)), None],
+        [Some(Imir(0)), None],
+        [Some(Irot(3)), Some(Imir(1))],
+        [Some(Irot(3)), None],
+        [Some(Irot(1)), Some(Imir(1))],
+        [Some(Irot(1)), None],
+    ];
+    for (n, list) in (1..).zip(lists) {
+        assert_eq!(transforms(n), Ok(list), "{n}");
+    }
+    for n in [0, 9, u32::MAX] {
+        assert_eq!(transforms(n), refused(Fault::NoOrientation, 0));
+    }
 }
 
 #[test]

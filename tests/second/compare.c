@@ -13,6 +13,7 @@
 #include <unistd.h>
 
 #include "generate.h"
+#include "later.h"
 #include "second.h"
 #include "still.h"
 
@@ -26,13 +27,16 @@ enum {
     POOL = TABLE_ROOM + 64 * 1024
 };
 
-enum question { VERDICT, SIZE, TRACE, SOURCES, PROPERTY, QUESTIONS };
+enum question { VERDICT, SIZE, TRACE, SOURCES, PROPERTY, ORIENTATION, TRANSFORMS };
 
-static const char *const question_name[] = {"verdict", "size", "trace", "sources", "property"};
+static const char *const question_name[] = {"verdict", "size", "trace", "sources", "property", "orientation", "transforms"};
+
+/* The level from which on a call may be refused by a number. */
+static const uint8_t number_since[] = {[26] = 3, [27] = 3};
 
 struct call {
     enum question question;
-    uint32_t item, x, y; /* x is also the property's number */
+    uint32_t item, x, y; /* x is also the property's number, or the orientation */
     size_t table_len, list_len;
     int far; /* slices end at the guard page behind them, else begin at the one before */
 };
@@ -55,7 +59,7 @@ static struct still still;
 static struct call asked;
 static int running = -1; /* which side, for the report of a crash */
 static const char *dump_path;
-static unsigned long calls, differences, files, by_number[32];
+static unsigned long calls, differences, files, by_number[64];
 
 /* ---- Memory ---- */
 
@@ -104,7 +108,12 @@ static void call_still(const struct call *c, const uint8_t *p, uint32_t *table, 
     case SIZE: still_size(p, n, total, table, c->table_len, c->item, out); break;
     case TRACE: still_trace(p, n, total, table, c->table_len, c->item, c->x, c->y, out); break;
     case SOURCES: still_sources(p, n, total, table, c->table_len, c->item, list, c->list_len, out); break;
-    default: still_property(p, n, total, table, c->table_len, c->item, c->x, out); break;
+    case PROPERTY: still_property(p, n, total, table, c->table_len, c->item, c->x, out); break;
+#if LEVEL >= 3
+    case ORIENTATION: still_orientation(p, n, total, table, c->table_len, c->item, out); break;
+    case TRANSFORMS: still_transforms(c->x, out); break;
+#endif
+    default: break;
     }
 }
 
@@ -117,7 +126,9 @@ static void call_second(const struct call *c, const uint8_t *p, uint32_t *table,
     case SIZE: second_size(p, n, total, table, c->table_len, c->item, out); break;
     case TRACE: second_trace(p, n, total, table, c->table_len, c->item, c->x, c->y, out); break;
     case SOURCES: second_sources(p, n, total, table, c->table_len, c->item, list, c->list_len, out); break;
-    default: second_property(p, n, total, table, c->table_len, c->item, c->x, out); break;
+    case PROPERTY: second_property(p, n, total, table, c->table_len, c->item, c->x, out); break;
+    case ORIENTATION: second_orientation(p, n, total, table, c->table_len, c->item, out); break;
+    case TRANSFORMS: second_transforms(c->x, out); break;
     }
 }
 
@@ -171,6 +182,17 @@ static int is_zero(const uint32_t *words, size_t count)
     return any == 0;
 }
 
+static int is_known(uint64_t number)
+{
+    return number < sizeof number_since && number_since[number] <= LEVEL;
+}
+
+/* Refusals after which the table is empty. */
+static int empties(uint64_t number)
+{
+    return number >= 2 && number <= 20;
+}
+
 /* The rules on writing, held against the proved library by themselves. */
 static const char *broken_rule(const uint8_t *fill)
 {
@@ -179,13 +201,16 @@ static const char *broken_rule(const uint8_t *fill)
     uint64_t number = out[0];
     size_t table_at = place(&s->table, 4 * asked.table_len, asked.far);
     size_t written = asked.question == SOURCES && number == 0 ? 4 * (size_t)out[2] : 0;
-    if (number > 25)
+    int reads = asked.question != TRANSFORMS; /* a file, and so has a table */
+    if (!is_known(number))
         return "no such refusal";
-    if ((number == 1) != (asked.table_len < WORDS))
+    if ((number == 1) != (reads && asked.table_len < WORDS))
         return "refusal 1";
-    if (!unchanged_around(&s->table, fill, table_at, number == 1 ? 0 : 4 * WORDS))
+    if ((number == 27) != (!reads && (asked.x < 1 || asked.x > 8)))
+        return "refusal 27";
+    if (!unchanged_around(&s->table, fill, table_at, number == 1 || !reads ? 0 : 4 * WORDS))
         return "table written where it must not be";
-    if (number >= 2 && number <= 20 && !is_zero(table_of(0), WORDS))
+    if (empties(number) && !is_zero(table_of(0), WORDS))
         return "table not empty";
     if (written > 4 * asked.list_len || !unchanged_around(&s->list, fill, place(&s->list, 4 * asked.list_len, asked.far), written))
         return "list written where it must not be";
@@ -278,7 +303,7 @@ static uint64_t ask(struct dice *d, struct call call)
     run_side(1, fill);
     calls++;
     const char *what = first_difference(), *rule = broken_rule(fill);
-    by_number[out_of(1)[0] & 31]++;
+    by_number[out_of(1)[0] & 63]++;
     if (what != NULL || rule != NULL) {
         if (differences++ < 5)
             report(what != NULL ? what : rule);
@@ -347,6 +372,15 @@ static void ask_properties(struct dice *d, struct call call, uint32_t count)
     }
 }
 
+static void ask_orientation(struct dice *d, struct call call)
+{
+    call.question = ORIENTATION;
+    ask(d, call);
+    call.question = TRANSFORMS;
+    call.x = chance(d, 80) ? below(d, 11) : (uint32_t)roll(d);
+    ask(d, call);
+}
+
 /* What the questions are asked about comes from the second reading's table. */
 static void ask_about_item(struct dice *d, int far)
 {
@@ -370,6 +404,8 @@ static void ask_about_item(struct dice *d, int far)
         ask_traces(d, next, width, height);
         ask_sources(d, next);
         ask_properties(d, next, count);
+        if (LEVEL >= 3)
+            ask_orientation(d, next);
     }
 }
 
@@ -397,8 +433,9 @@ static void ask_seeds(struct dice *d, const struct seeds *seeds)
 static void print_counts(double seconds)
 {
     printf("refusals:");
-    for (int k = 0; k < 26; k++)
-        printf(" %d:%lu", k, by_number[k]);
+    for (unsigned k = 0; k < sizeof number_since; k++)
+        if (is_known(k))
+            printf(" %u:%lu", k, by_number[k]);
     printf("\n%lu files, %lu calls, %lu differences, %.0f seconds\n", files, calls, differences, seconds);
 }
 

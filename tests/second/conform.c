@@ -127,11 +127,23 @@ static int past_is_clean(size_t written)
     return 1;
 }
 
+/* How many, then each by its name and value. */
+static void spell_transforms(char *text)
+{
+    text += sprintf(text, "%llu", (unsigned long long)out[2]);
+    for (uint64_t k = 0; k < out[2]; k++)
+        text += sprintf(text, " %s %llu", out[3 + 2 * k] == 1 ? "irot" : "imir", (unsigned long long)out[4 + 2 * k]);
+}
+
 static void spell(char *text, const char *question)
 {
-    int values = !strcmp(question, "size") || !strcmp(question, "trace") ? 5 : 2;
+    int values = !strcmp(question, "size") || !strcmp(question, "trace") ? 5 : !strcmp(question, "orientation") ? 1 : 2;
     if (out[0] != 0) {
         sprintf(text, "refused %llu %llu", (unsigned long long)out[0], (unsigned long long)out[1]);
+        return;
+    }
+    if (!strcmp(question, "transforms")) {
+        spell_transforms(text);
         return;
     }
     if (!strcmp(question, "sources")) {
@@ -161,6 +173,10 @@ static int ask(uint64_t total, const char *question, const char *arguments, char
         second_trace(head, head_len, total, table, WORDS + PAST, a[0], a[1], a[2], out);
     else if (!strcmp(question, "sources"))
         second_sources(head, head_len, total, table, WORDS + PAST, a[0], list, a[1], out);
+    else if (!strcmp(question, "orientation"))
+        second_orientation(head, head_len, total, table, WORDS + PAST, a[0], out);
+    else if (!strcmp(question, "transforms"))
+        second_transforms(a[0], out);
     else
         second_property(head, head_len, total, table, WORDS + PAST, a[0], a[1], out);
     if (!strcmp(question, "table"))
@@ -230,7 +246,7 @@ int main(int argc, char **argv)
         return fprintf(stderr, "cannot run %s\n", command), 2;
     make_constants();
     while (fgets(line, sizeof line, expected)) {
-        if (!split(line, field) || (strcmp(field[0], loaded) && !load(argv[1], field[0])))
+        if (!split(line, field) || (strcmp(field[0], loaded) && strcmp(field[0], "-") && !load(argv[1], field[0])))
             return fprintf(stderr, "cannot read line %lu\n", lines + 1), 2;
         snprintf(loaded, sizeof loaded, "%s", field[0]);
         hold(field);

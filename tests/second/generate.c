@@ -130,9 +130,9 @@ static struct content ispe_of(uint32_t width, uint32_t height)
 }
 
 /* One direction of a clap that fits: the edge is chosen, the offset follows from it, then both are widened. */
-static uint32_t plan_crop(struct dice *d, uint8_t *side_field, uint8_t *offset_field, uint32_t side)
+static uint32_t plan_crop(struct dice *d, uint8_t *side_field, uint8_t *offset_field, uint32_t side, int whole)
 {
-    uint32_t cropped = chance(d, 30) || side == 0 ? side : between(d, 1, side);
+    uint32_t cropped = whole || chance(d, 30) || side == 0 ? side : between(d, 1, side);
     uint32_t edge = chance(d, 30) ? (side - cropped) / 2 : below(d, side - cropped + 1);
     int64_t twice = 2 * (int64_t)edge - (int64_t)(side - cropped); /* twice the offset */
     uint32_t by = chance(d, 50) ? 1 : between(d, 1, 60000), parts = 2;
@@ -148,10 +148,11 @@ static uint32_t plan_crop(struct dice *d, uint8_t *side_field, uint8_t *offset_f
     return cropped;
 }
 
-static struct content plan_transform(struct dice *d, uint32_t *width, uint32_t *height)
+/* One of the first `kinds` of irot, imir, clap. */
+static struct content plan_transform(struct dice *d, uint32_t kinds, uint32_t *width, uint32_t *height)
 {
     struct content content = {0, {0}, 1};
-    uint32_t which = below(d, 3), turn = below(d, 4);
+    uint32_t which = below(d, kinds), turn = below(d, 4);
     if (which == 0) {
         content.type = TYPE('i', 'r', 'o', 't');
         content.bytes[0] = (uint8_t)(turn | (chance(d, 20) ? below(d, 64) << 2 : 0));
@@ -166,8 +167,9 @@ static struct content plan_transform(struct dice *d, uint32_t *width, uint32_t *
     } else {
         content.type = TYPE('c', 'l', 'a', 'p');
         content.length = 32;
-        *width = plan_crop(d, content.bytes, content.bytes + 16, *width);
-        *height = plan_crop(d, content.bytes + 8, content.bytes + 24, *height);
+        int whole = chance(d, 25); /* cuts nothing */
+        *width = plan_crop(d, content.bytes, content.bytes + 16, *width, whole);
+        *height = plan_crop(d, content.bytes + 8, content.bytes + 24, *height, whole);
     }
     return content;
 }
@@ -203,9 +205,12 @@ static void plan_properties(struct dice *d, struct plan *plan, struct picture *i
     associate(plan, item, property_index(d, plan, &ispe), chance(d, 30));
     item->out_width = item->width;
     item->out_height = item->height;
+    uint32_t kinds = chance(d, 50) ? 2 : 3; /* without clap, or with */
+    if (kinds == 2 && transforms != 0 && chance(d, 4))
+        transforms = between(d, 40, 250);
     while (transforms-- > 0) {
         uint32_t width = item->out_width, height = item->out_height, had = item->associations;
-        struct content content = plan_transform(d, &width, &height);
+        struct content content = plan_transform(d, kinds, &width, &height);
         uint32_t index = property_index(d, plan, &content);
         if (index != 0)
             associate(plan, item, index, chance(d, 50));
@@ -288,6 +293,12 @@ static void plan_opaque(struct dice *d, struct plan *plan)
         uint32_t index = property_index(d, plan, &content);
         if (index != 0)
             associate(plan, item, index, 1);
+    }
+    while (chance(d, 25)) { /* a transform means nothing here */
+        uint32_t width = 8, height = 8;
+        struct content content = plan_transform(d, 3, &width, &height);
+        uint32_t index = property_index(d, plan, &content);
+        associate(plan, item, index, index != 0 && chance(d, 50));
     }
 }
 

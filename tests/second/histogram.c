@@ -12,7 +12,7 @@ int main(int argc, char **argv)
     static struct still still;
     uint64_t out[8], count = argc > 1 ? strtoull(argv[1], NULL, 10) : 10000;
     uint64_t seed = argc > 2 ? strtoull(argv[2], NULL, 10) : 1;
-    unsigned long number[26] = {0}, wrong = 0, bytes = 0;
+    unsigned long number[64] = {0}, wrong = 0, bytes = 0;
     struct dice dice = dice_from(seed);
     struct seeds seeds = {NULL, 0};
     for (int k = 3; k < argc; k++)
@@ -32,7 +32,7 @@ int main(int argc, char **argv)
             }
         }
     }
-    for (int k = 0; k < 26; k++)
+    for (int k = 0; k < 64; k++)
         if (number[k] != 0)
             printf("%2d %8lu\n", k, number[k]);
     printf("%lu files, mean length %lu, %lu good ones refused\n", (unsigned long)count, bytes / (count ? count : 1), wrong);

@@ -4,7 +4,7 @@
 #define LEVEL_H
 
 #ifndef LEVEL
-#define LEVEL 1
+#define LEVEL 3
 #endif
 
 #endif

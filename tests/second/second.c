@@ -999,6 +999,14 @@ struct step {
     uint32_t left, top;
 };
 
+/* A turn or mirror applied to a size. */
+static void turn_size(struct step *step, struct size *size)
+{
+    step->size = *size;
+    if (step->kind == IROT && step->turn & 1)
+        *size = (struct size){size->height, size->width};
+}
+
 /* Applies the transform of a property row to a size. */
 static bool transform(const struct file *f, uint32_t property, struct size *size, struct step *step)
 {
@@ -1010,8 +1018,7 @@ static bool transform(const struct file *f, uint32_t property, struct size *size
         return crop_side(end - 32, end - 16, &size->width, &step->left) &&
                crop_side(end - 24, end - 8, &size->height, &step->top);
     step->turn = end[-1] & (step->kind == IROT ? 3 : 1);
-    if (step->kind == IROT && step->turn & 1)
-        *size = (struct size){size->height, size->width};
+    turn_size(step, size);
     return true;
 }
 
@@ -1270,6 +1277,81 @@ static void trace_down(const struct file *f, uint32_t row, struct point p, uint6
     }
 }
 
+/* ---- Orientation ---- */
+
+enum { ORIENTATIONS = 8, SMALL_WIDTH = 2, SMALL_HEIGHT = 3 };
+
+/* Q-3's lists, as document 02 gives them; left-right is imir 1 since Q-1. */
+struct turns {
+    uint32_t count;
+    struct step step[2];
+};
+
+static const struct turns turns_of[ORIENTATIONS + 1] = {
+    [1] = {0, {{0}}},
+    [2] = {1, {{.kind = IMIR, .turn = 1}}},
+    [3] = {1, {{.kind = IROT, .turn = 2}}},
+    [4] = {1, {{.kind = IMIR, .turn = 0}}},
+    [5] = {2, {{.kind = IROT, .turn = 3}, {.kind = IMIR, .turn = 1}}},
+    [6] = {1, {{.kind = IROT, .turn = 3}}},
+    [7] = {2, {{.kind = IROT, .turn = 1}, {.kind = IMIR, .turn = 1}}},
+    [8] = {1, {{.kind = IROT, .turn = 1}}},
+};
+
+/* Where each output pixel of a small picture comes from, row by row. Its sides differ and all its pixels do, so that
+ * no two of the eight maps are alike; the picture at hand may be one pixel wide and would not tell. */
+struct small {
+    struct size size;
+    struct point from[SMALL_WIDTH * SMALL_HEIGHT];
+};
+
+static void draw_small(struct step *steps, uint32_t count, struct small *small)
+{
+    small->size = (struct size){SMALL_WIDTH, SMALL_HEIGHT};
+    for (uint32_t k = 0; k < count; k++)
+        turn_size(&steps[k], &small->size);
+    for (uint32_t at = 0; at < SMALL_WIDTH * SMALL_HEIGHT; at++) {
+        struct point p = {at % small->size.width, at / small->size.width};
+        for (uint32_t k = count; k-- > 0;)
+            p = go_back(&steps[k], p);
+        small->from[at] = p;
+    }
+}
+
+static bool same_small(const struct small *a, const struct small *b)
+{
+    return a->size.width == b->size.width && memcmp(a->from, b->from, sizeof a->from) == 0;
+}
+
+/* The number whose list draws the small picture as these turns and mirrors do. */
+static uint32_t orientation_of(struct step *steps, uint32_t count)
+{
+    struct small drawn, other;
+    uint32_t number = 0;
+    draw_small(steps, count, &drawn);
+    do {
+        struct turns turns = turns_of[++number];
+        draw_small(turns.step, turns.count, &other);
+    } while (number < ORIENTATIONS && !same_small(&drawn, &other));
+    return number;
+}
+
+/* The item's own turns and mirrors, or false when there is a clap among its transforms. */
+static bool take_turns(const struct file *f, const struct item *item, struct step *steps, uint32_t *count)
+{
+    struct size size = {item->width, item->height};
+    *count = 0;
+    for (uint32_t k = 0; k < item->associations; k++) {
+        uint32_t property = transform_at(f, item, k);
+        if (property == PROPERTIES_MAX)
+            continue;
+        transform(f, property, &size, &steps[*count]);
+        if (steps[(*count)++].kind == CLAP)
+            return false;
+    }
+    return true;
+}
+
 /* ---- Sources ---- */
 
 /* Deeper items stand later in `order`, so going back through it meets every user of an item before the item. */
@@ -1287,7 +1369,7 @@ static void mark_needed(const struct file *f, uint32_t row, bool *needed)
     }
 }
 
-/* ---- The five questions ---- */
+/* ---- The questions of document 01 ---- */
 
 void second_verdict(const uint8_t *head, size_t head_len, uint64_t total, uint32_t *table, size_t table_len,
                     uint64_t *out)
@@ -1374,4 +1456,38 @@ void second_property(const uint8_t *head, size_t head_len, uint64_t total, uint3
         return;
     out[2] = f.table->property[index - 1].offset;
     out[3] = f.table->property[index - 1].size;
+}
+
+/* ---- The questions of document 02 ---- */
+
+void second_orientation(const uint8_t *head, size_t head_len, uint64_t total, uint32_t *table, size_t table_len,
+                        uint32_t item, uint64_t *out)
+{
+    struct file f;
+    struct step steps[255];
+    uint32_t count;
+    if (!read_file(&f, head, head_len, total, table, table_len, out))
+        return;
+    uint32_t row = asked_row(&f, item, true, out);
+    if (row == NONE)
+        return;
+    if (take_turns(&f, &f.table->item[row], steps, &count))
+        out[2] = orientation_of(steps, count);
+    else
+        answer_refusal(out, 26, item);
+}
+
+void second_transforms(uint32_t orientation, uint64_t *out)
+{
+    memset(out, 0, 8 * sizeof *out);
+    if (orientation < 1 || orientation > ORIENTATIONS) {
+        answer_refusal(out, 27, 0);
+        return;
+    }
+    const struct turns *turns = &turns_of[orientation];
+    out[2] = turns->count;
+    for (uint32_t k = 0; k < turns->count; k++) {
+        out[3 + 2 * k] = turns->step[k].kind == IROT ? 1 : 2;
+        out[4 + 2 * k] = turns->step[k].turn;
+    }
 }

@@ -27,4 +27,11 @@ void second_sources(const uint8_t *head, size_t head_len, uint64_t total, uint32
 void second_property(const uint8_t *head, size_t head_len, uint64_t total, uint32_t *table, size_t table_len,
                      uint32_t item, uint32_t k, uint64_t *out);
 
+/* the Exif orientation, 1 to 8. */
+void second_orientation(const uint8_t *head, size_t head_len, uint64_t total, uint32_t *table, size_t table_len,
+                        uint32_t item, uint64_t *out);
+
+/* how many transforms, then kind (1 irot, 2 imir) and value of each. No file is read. */
+void second_transforms(uint32_t orientation, uint64_t *out);
+
 #endif

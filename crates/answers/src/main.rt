@@ -1,13 +1,16 @@
 // Answers questions about many heads: reads them from standard input and prints a line for each, as in the files with the right answers.
-// The input: how many heads (4 bytes); for each its name (length in 4 bytes, then the letters), the file's total (8), its bytes (length in 4, then the bytes), how many questions (4); for each question its kind (4: 0 verdict, 1 table, 2 size, 3 trace, 4 sources, 5 property), an item ID (4) and two numbers (4 each).
+// The input: how many heads (4 bytes); for each its name (length in 4 bytes, then the letters), the file's total (8), its bytes (length in 4, then the bytes), how many questions (4); for each question its kind (4: 0 verdict, 1 table, 2 size, 3 trace, 4 sources, 5 property, 6 orientation, 7 transforms), an item ID, or the orientation for 7 (4), and two numbers (4 each).
 // The table is never cleared between calls, and has 20 words more than it needs.
 ghost use mathlib.Core.Path.{_≡_};
 ghost use Prim.Native.Nat.{_<_};
 ghost use lib.ListN.{length};
 use boxes::Refusal;
+use facing::Transform;
+use facing::TransformList;
 use pictures::Point;
 use still::FileVerdict;
 use still::Listed;
+use still::Oriented;
 use still::Sized;
 use still::Traced;
 use table::ItemId;
@@ -186,6 +189,58 @@ fn print_property(head: &[u8], total: u64, table: &mut [u32], id: u32, k: u32) {
     print_part(told, part);
 }
 
+fn print_orientation(head: &[u8], total: u64, table: &mut [u32], id: u32) {
+    io::write_all(1, b"orientation\t");
+    io::print_decimal(1, id as u64);
+    io::write_all(1, b"\t");
+    let o = still::orientation(head, total, table, ItemId(id));
+    match o {
+        Oriented::Is(n) => {
+            io::print_decimal(1, n as u64);
+            io::write_all(1, b"\n");
+        }
+        Oriented::Refused(f) => print_refusal(f),
+    }
+}
+
+fn print_transform(t: Transform) {
+    match t {
+        Transform::Irot(value) => {
+            io::write_all(1, b" irot");
+            print_more(value as u64);
+        }
+        Transform::Imir(value) => {
+            io::write_all(1, b" imir");
+            print_more(value as u64);
+        }
+    }
+}
+
+// How many, then each. No file is read and no table is lent.
+fn print_transforms(orientation: u32) {
+    io::write_all(1, b"transforms\t");
+    io::print_decimal(1, orientation as u64);
+    io::write_all(1, b"\t");
+    let l = still::transforms(orientation);
+    match l {
+        TransformList::Refused(f) => print_refusal(f),
+        TransformList::None => {
+            io::write_all(1, b"0\n");
+        }
+        TransformList::One(t) => {
+            io::write_all(1, b"1");
+            print_transform(t);
+            io::write_all(1, b"\n");
+        }
+        TransformList::Two(t, u) => {
+            io::write_all(1, b"2");
+            print_transform(t);
+            print_transform(u);
+            io::write_all(1, b"\n");
+        }
+    }
+}
+
 fn answer(name: &[u8], head: &[u8], total: u64, table: &mut [u32]) {
     let kind = heads::read_number();
     let id = heads::read_number();
@@ -201,7 +256,9 @@ fn answer(name: &[u8], head: &[u8], total: u64, table: &mut [u32]) {
         2 => print_size(head, total, table, id),
         3 => print_trace(head, total, table, id, x, y),
         4 => print_sources(head, total, table, id, x),
-        _ => print_property(head, total, table, id, x),
+        5 => print_property(head, total, table, id, x),
+        6 => print_orientation(head, total, table, id),
+        _ => print_transforms(id),
     }
 }
 

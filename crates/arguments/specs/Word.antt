@@ -1,14 +1,15 @@
 -- The words of the questions.
 --   same s t       whether two words have the same bytes
 --   wordOf s       which question a word asks; Unknown where it is none of them;   laterWordOf    the words that came with document 02
---   numbersOf w    how many numbers follow: an item's ID, then x and y of a pixel, or the number of a property
+--   numbersOf w    how many numbers follow: an item's ID, then x and y of a pixel, or the number of a property; an orientation
+--   mayBeAlone w   whether none may follow: without an item, `orientation` is asked of the primary one
 use Prim.Native.Nat.{ℕ}
 use mathlib.Core.List.{List, [], _∷_}
 use mathlib.Core.Bool.{Bool, true, false, _&&_}
 use lib.Dec.{eqb}
 use Rattle.fields.specs.Choice.{pick}
 use Rattle.arguments.specs.declared.Word.{Word}
-use Rattle.arguments.specs.declared.Word.the-variants.{Verdict, Why, Size, Trace, Sources, Property, Crop, Unknown}
+use Rattle.arguments.specs.declared.Word.the-variants.{Verdict, Why, Size, Trace, Sources, Property, Crop, Orientation, Transforms, Unknown}
 
 unfoldable pub same : List ℕ → List ℕ → Bool
 same [] [] = true
@@ -38,8 +39,14 @@ property = 112 ∷ 114 ∷ 111 ∷ 112 ∷ 101 ∷ 114 ∷ 116 ∷ 121 ∷ []
 abbrev pub crop : List ℕ
 crop = 99 ∷ 114 ∷ 111 ∷ 112 ∷ []
 
+abbrev pub orientation : List ℕ
+orientation = 111 ∷ 114 ∷ 105 ∷ 101 ∷ 110 ∷ 116 ∷ 97 ∷ 116 ∷ 105 ∷ 111 ∷ 110 ∷ []
+
+abbrev pub transforms : List ℕ
+transforms = 116 ∷ 114 ∷ 97 ∷ 110 ∷ 115 ∷ 102 ∷ 111 ∷ 114 ∷ 109 ∷ 115 ∷ []
+
 unfoldable pub laterWordOf : List ℕ → Word
-laterWordOf s = pick (same s crop) Crop Unknown
+laterWordOf s = pick (same s crop) Crop (pick (same s orientation) Orientation (pick (same s transforms) Transforms Unknown))
 
 unfoldable pub wordOf : List ℕ → Word
 wordOf s =
@@ -58,4 +65,18 @@ numbersOf Trace = 3
 numbersOf Sources = 1
 numbersOf Property = 2
 numbersOf Crop = 1
+numbersOf Orientation = 1
+numbersOf Transforms = 1
 numbersOf Unknown = 0
+
+abbrev pub mayBeAlone : Word → Bool
+mayBeAlone Verdict = true
+mayBeAlone Why = true
+mayBeAlone Size = false
+mayBeAlone Trace = false
+mayBeAlone Sources = false
+mayBeAlone Property = false
+mayBeAlone Crop = false
+mayBeAlone Orientation = true
+mayBeAlone Transforms = false
+mayBeAlone Unknown = true

@@ -1,7 +1,7 @@
 // What the arguments of a program say: numbers, and the words of the questions.
 ghost use mathlib.Core.Path.{_≡_};
 ghost use Rattle.arguments.specs.Number.{digitOf, numberOf};
-ghost use Rattle.arguments.specs.Word.{same, wordOf, laterWordOf, numbersOf};
+ghost use Rattle.arguments.specs.Word.{same, wordOf, laterWordOf, numbersOf, mayBeAlone};
 
 pub enum Number {
     Is(u32),
@@ -69,6 +69,8 @@ pub enum Word {
     Sources,
     Property,
     Crop,
+    Orientation,
+    Transforms,
     Unknown,
 }
 
@@ -104,6 +106,12 @@ fn later_word_of(s: &[u8]) -> Word
     if is_word(s, b"crop") {
         return Word::Crop;
     }
+    if is_word(s, b"orientation") {
+        return Word::Orientation;
+    }
+    if is_word(s, b"transforms") {
+        return Word::Transforms;
+    }
     Word::Unknown
 }
 
@@ -119,6 +127,26 @@ pub fn numbers_of(w: Word) -> usize
         Word::Sources => 1,
         Word::Property => 2,
         Word::Crop => 1,
+        Word::Orientation => 1,
+        Word::Transforms => 1,
         Word::Unknown => 0,
+    }
+}
+
+// Whether they may be left out: without an item, `orientation` is asked of the primary one.
+pub fn may_be_alone(w: Word) -> bool
+    ensures { λ r. ⌜ r ≡ mayBeAlone w ⌝ }
+{
+    match w {
+        Word::Verdict => true,
+        Word::Why => true,
+        Word::Size => false,
+        Word::Trace => false,
+        Word::Sources => false,
+        Word::Property => false,
+        Word::Crop => false,
+        Word::Orientation => true,
+        Word::Transforms => false,
+        Word::Unknown => true,
     }
 }

@@ -2,21 +2,29 @@
 ghost use mathlib.Core.Path.{_≡_};
 ghost use lib.ListN.{length};
 use boxes::Refusal;
+use facing::Transform;
+use facing::TransformList;
 use lines::print_field;
 use pictures::Point;
 use still::FileVerdict;
 use still::Listed;
+use still::Oriented;
 use still::Sized;
 use still::Traced;
 use table::ItemId;
 use words::say;
 
-// `refused`, number, place, and the sentence, in any answer's place.
-pub fn print_refused(head: &[u8], total: u64, f: Refusal) {
+// `refused`, number and place; the sentence follows.
+fn open_refused(f: Refusal) {
     say(1, b"\trefused");
     print_field(f.number as u64);
     print_field(f.place);
     say(1, b"\t");
+}
+
+// `refused`, number, place, and the sentence, in any answer's place.
+pub fn print_refused(head: &[u8], total: u64, f: Refusal) {
+    open_refused(f);
     causes::print_sentence(1, head, total, f);
     say(1, b"\n");
 }
@@ -176,4 +184,72 @@ pub fn print_property(head: &[u8], total: u64, table: &mut [u32], id: u32, k: u3
         place: told[1],
     };
     print_refused(head, total, f);
+}
+
+// `orientation`, ID; the number, and what it asks of a viewer.
+pub fn print_orientation(head: &[u8], total: u64, table: &mut [u32], id: u32) {
+    let o = still::orientation(head, total, table, ItemId(id));
+    say(1, b"orientation");
+    print_field(id as u64);
+    match o {
+        Oriented::Refused(f) => print_refused(head, total, f),
+        Oriented::Is(n) => {
+            print_field(n as u64);
+            say(1, b"\t");
+            words::print_orientation(1, n);
+            say(1, b"\n");
+        }
+    }
+}
+
+// The same of the primary item, which a refused file does not tell: `-` then stands for its ID.
+pub fn print_primary_orientation(head: &[u8], total: u64, table: &mut [u32]) {
+    let v = still::verdict(head, total, table);
+    match v {
+        FileVerdict::Accepted { items: _, primary } => {
+            print_orientation(head, total, table, primary.0)
+        }
+        FileVerdict::Refused(f) => {
+            say(1, b"orientation\t-");
+            print_refused(head, total, f);
+        }
+    }
+}
+
+// A transform as one field, its type and its value.
+fn print_transform(t: Transform) {
+    match t {
+        Transform::Irot(value) => {
+            say(1, b"\tirot ");
+            io::print_decimal(1, value as u64);
+        }
+        Transform::Imir(value) => {
+            say(1, b"\timir ");
+            io::print_decimal(1, value as u64);
+        }
+    }
+}
+
+// `transforms`, an orientation; how many transforms say it, and each. No file is read.
+pub fn print_transforms(orientation: u32) {
+    let l = still::transforms(orientation);
+    say(1, b"transforms");
+    print_field(orientation as u64);
+    match l {
+        TransformList::Refused(f) => {
+            open_refused(f);
+            words::print_words(1, f.number);
+        }
+        TransformList::None => print_field(0),
+        TransformList::One(t) => {
+            print_field(1);
+            print_transform(t);
+        }
+        TransformList::Two(t, u) => {
+            print_field(2);
+            print_transform(t);
+            print_transform(u);
+        }
+    }
+    say(1, b"\n");
 }

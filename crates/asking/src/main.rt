@@ -1,4 +1,4 @@
-// The asking program: a still on standard input, a question in the arguments, one line of fields parted by tabs as the answer.
+// The asking program: a still on standard input (`transforms` reads none), a question in the arguments, one line of fields parted by tabs as the answer.
 mod answers;
 mod crop;
 
@@ -6,9 +6,10 @@ use arguments::Number;
 use arguments::Word;
 use input::Input;
 
-// A question's word and its numbers; those that it does not take are 0.
+// A question's word and its numbers; those that it does not take are 0. `alone` says that the word came without any.
 struct Question {
     word: Word,
+    alone: bool,
     id: u32,
     x: u32,
     y: u32,
@@ -35,6 +36,14 @@ fn read_word() -> Word {
     arguments::word_of(&text[..n])
 }
 
+// Whether so many numbers make a question of a word.
+fn is_right(word: Word, numbers: usize) -> bool {
+    if numbers == 0 {
+        return arguments::may_be_alone(word);
+    }
+    numbers == arguments::numbers_of(word)
+}
+
 // The question that the arguments ask, all of them and no more.
 fn read_question() -> Asked {
     let word = read_word();
@@ -46,7 +55,7 @@ fn read_question() -> Asked {
     if count < 2 {
         return Asked::Unclear;
     }
-    if count - 2 != arguments::numbers_of(word) {
+    if !is_right(word, count - 2) {
         return Asked::Unclear;
     }
     let Number::Is(id) = number_at(2) else {
@@ -58,7 +67,13 @@ fn read_question() -> Asked {
     let Number::Is(y) = number_at(4) else {
         return Asked::Unclear;
     };
-    Asked::Is(Question { word, id, x, y })
+    Asked::Is(Question {
+        word,
+        alone: count == 2,
+        id,
+        x,
+        y,
+    })
 }
 
 fn print_answer(q: Question, head: &[u8], total: u64) {
@@ -72,6 +87,13 @@ fn print_answer(q: Question, head: &[u8], total: u64) {
         Word::Sources => answers::print_sources(head, total, &mut table, q.id),
         Word::Property => answers::print_property(head, total, &mut table, q.id, q.x),
         Word::Crop => crop::print_crop(head, total, &mut table, q.id),
+        Word::Orientation => {
+            if q.alone {
+                return answers::print_primary_orientation(head, total, &mut table);
+            }
+            answers::print_orientation(head, total, &mut table, q.id);
+        }
+        Word::Transforms => answers::print_transforms(q.id),
         Word::Unknown => print_use(),
     }
 }
@@ -93,10 +115,19 @@ fn ask(q: Question) {
     }
 }
 
+// A question about a file reads it first.
+fn answer(q: Question) {
+    let word = q.word;
+    if let Word::Transforms = word {
+        return answers::print_transforms(q.id);
+    }
+    ask(q);
+}
+
 fn main() {
     let asked = read_question();
     match asked {
         Asked::Unclear => print_use(),
-        Asked::Is(q) => ask(q),
+        Asked::Is(q) => answer(q),
     }
 }

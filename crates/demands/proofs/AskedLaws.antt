@@ -1,17 +1,17 @@
--- Refusals 21 to 25: what is asked of a good file is refused exactly where the table of document 01 says. Assumes nothing.
+-- Refusals 21 to 27: what is asked of a good file is refused exactly where the table of document 01 says. Assumes nothing.
 use Prim.Native.Nat.{ℕ, _-_, _≤_, _<_}
 use native.Mathlib.Omega.{arith}
 use mathlib.Core.Path.{_≡_, refl, sym, ap, subst, _∙_}
 use mathlib.Core.List.{List}
-use mathlib.Core.Bool.{Bool, true, false, _&&_}
+use mathlib.Core.Bool.{Bool, true, false, not, _&&_}
 use mathlib.Core.Logic.{_⊎_, inl, inr}
 use lib.ListN.{length}
 use lib.Dec.{leb, ltb}
-use borrow.Author.Tests.{leb-true, leb-false, ltb-true, lt-ltb, le-ltb}
+use borrow.Author.Tests.{leb-true, leb-false, ltb-true, lt-ltb, le-ltb, lt-leb, not-false}
 use Rattle.fields.specs.Lists.{member}
-use Rattle.fields.proofs.TestLaws.{untrue, both-and}
+use Rattle.fields.proofs.TestLaws.{untrue, both-and, and-none}
 use Rattle.boxes.specs.Answer.{Answer, ok, refuse, check, _>>=_, _>>_}
-use Rattle.boxes.specs.Types.{image}
+use Rattle.boxes.specs.Types.{image, clap}
 use Rattle.boxes.proofs.AnswerLaws.{ok-bind, then-ok, ok-then, check-ok, ok-check, ok-inj, bind-assoc, bind-refuse}
 use Rattle.contents.specs.Iinf.{Item, idsOf}
 use Rattle.contents.specs.File.{File}
@@ -20,10 +20,11 @@ use Rattle.pictures.specs.declared.Point.{Point}
 use Rattle.pictures.specs.Turn.{Inside}
 use Rattle.pictures.specs.Scene.{Picture, Scene, pictureAt, outputOf}
 use Rattle.pictures.specs.Sources.{sources}
-use Rattle.rules.specs.Joined.{associationsOf, rowOf, itemAt}
+use Rattle.rules.specs.Joined.{associationsOf, typesOf, rowOf, itemAt}
 use Rattle.rules.specs.Places.{Places}
 use Rattle.rules.specs.Questions.{listed, pictured, sizeIn, traceIn, sourcesIn, propertyIn}
-use Rattle.demands.specs.Call.{IsListed, IsPicture, shownAs, SizeUnmet, unlisted, opaque, TraceUnmet, not-shown, outside, SourcesUnmet, not-derived, too-short, PropertyUnmet, not-listed, no-such}
+use Rattle.facing.specs.Orientation.{orientationIn, transformsIn}
+use Rattle.demands.specs.Call.{IsListed, IsPicture, shownAs, SizeUnmet, unlisted, opaque, TraceUnmet, not-shown, outside, SourcesUnmet, not-derived, too-short, PropertyUnmet, not-listed, no-such, OrientationUnmet, no-picture, cropped}
 
 -- check, then more: the refusal is the test's, or that of what follows
 check-then : {A : Type 0} (n p : ℕ) (t : Bool) (m : Answer A) (a b : ℕ) → (check n p t >> m) ≡ refuse a b → ((a ≡ n) × (b ≡ p) × (t ≡ false)) ⊎ ((t ≡ true) × (m ≡ refuse a b))
@@ -125,3 +126,30 @@ module _ (f : File) (id : ℕ) where
       last : {A : Type 0} {a : A} → IsListed f id → ((n ≡ 25) × (p ≡ id) × ((leb 1 k && leb k (length (associationsOf f id))) ≡ false)) ⊎ (((leb 1 k && leb k (length (associationsOf f id))) ≡ true) × (ok a ≡ refuse n p)) → PropertyUnmet f id k n × (p ≡ id)
       last i (inl x) = (no-such (x .0) i (which (fails (leb 1 k) _ (x .2))), x .1)
       last i (inr x) = never _ n p (x .1)
+
+  pub orientation-unmet : (s : Scene) (n p : ℕ) → orientationIn s f id ≡ refuse n p → OrientationUnmet f id n × (p ≡ id)
+  unfolding orientationIn
+  orientation-unmet s n p e = elim (pictured-or _ n p e) [ inl x ↦ (no-picture (x .0), x .1) | inr x ↦ last (x .0) (check-then 26 id _ _ n p (x .1)) ]
+    where
+      last : {A : Type 0} {a : A} → IsPicture f id → ((n ≡ 26) × (p ≡ id) × (not (member clap (typesOf f id)) ≡ false)) ⊎ ((not (member clap (typesOf f id)) ≡ true) × (ok a ≡ refuse n p)) → OrientationUnmet f id n × (p ≡ id)
+      last i (inl x) = (cropped (x .0) i (not-false _ (x .2)), x .1)
+      last i (inr x) = never _ n p (x .1)
+
+-- transformsIn: "27, orientation not 1 to 8, the only check in that call"
+module _ (k : ℕ) where
+  pub transforms-unmet : (n p : ℕ) → transformsIn k ≡ refuse n p → (n ≡ 27) × (p ≡ 0) × ((k ≡ 0) ⊎ (8 < k))
+  unfolding transformsIn
+  transforms-unmet n p e = by (check-then 27 0 _ _ n p e)
+    where
+      which : (leb 1 k ≡ false) ⊎ (leb k 8 ≡ false) → (k ≡ 0) ⊎ (8 < k)
+      which (inl h) = let y = leb-false 1 k h in inl (omega arith)
+      which (inr h) = inr (leb-false k 8 h)
+
+      by : {A : Type 0} {a : A} → ((n ≡ 27) × (p ≡ 0) × ((leb 1 k && leb k 8) ≡ false)) ⊎ (((leb 1 k && leb k 8) ≡ true) × (ok a ≡ refuse n p)) → (n ≡ 27) × (p ≡ 0) × ((k ≡ 0) ⊎ (8 < k))
+      by (inl x) = (x .0, x .1, which (fails (leb 1 k) _ (x .2)))
+      by (inr x) = never _ n p (x .1)
+
+  pub transforms-off : (k ≡ 0) ⊎ (8 < k) → transformsIn k ≡ refuse 27 0
+  unfolding transformsIn check _>>_
+  transforms-off (inl h) = rw (lt-leb 1 k (omega arith))
+  transforms-off (inr h) = rw (and-none (leb 1 k) (leb k 8) (lt-leb k 8 h))

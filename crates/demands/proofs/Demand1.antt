@@ -32,12 +32,15 @@ use Rattle.still.specs.declared.Traced.{Traced}
 use Rattle.still.specs.declared.Traced.the-variants as traced
 use Rattle.still.specs.declared.Listed.{Listed}
 use Rattle.still.specs.declared.Listed.the-variants as listed
-use Rattle.still.specs.Told.{toldVerdict, toldSized, toldFound, toldTraced, toldListed, toldPart, toldFault, toldBy}
-use Rattle.still.specs.Given.{VerdictGiven, SizeGiven, TraceGiven, SourcesGiven, PropertyGiven}
+use Rattle.still.specs.declared.Oriented.{Oriented}
+use Rattle.still.specs.declared.Oriented.the-variants as oriented
+use Rattle.facing.specs.Orientation.{orientation}
+use Rattle.still.specs.Told.{toldVerdict, toldSized, toldFound, toldTraced, toldListed, toldOriented, toldPart, toldFault, toldBy}
+use Rattle.still.specs.Given.{VerdictGiven, SizeGiven, TraceGiven, SourcesGiven, OrientationGiven, PropertyGiven}
 use Rattle.faults.proofs.GoodLaws.{accepted-good, refused-first}
-use Rattle.demands.specs.Call.{SizeUnmet, TraceUnmet, SourcesUnmet, PropertyUnmet, Call, short, bad, unmet}
-use Rattle.demands.proofs.ToldLaws.{verdict-told, size-told, trace-told, sources-told}
-use Rattle.demands.proofs.AskedLaws.{size-unmet, trace-unmet, sources-unmet, property-unmet}
+use Rattle.demands.specs.Call.{SizeUnmet, TraceUnmet, SourcesUnmet, PropertyUnmet, OrientationUnmet, Call, short, bad, unmet}
+use Rattle.demands.proofs.ToldLaws.{verdict-told, size-told, trace-told, sources-told, orientation-told}
+use Rattle.demands.proofs.AskedLaws.{size-unmet, trace-unmet, sources-unmet, property-unmet, orientation-unmet}
 
 never : {A B : Type 0} (x : A) (n p : ℕ) → ok x ≡ refuse n p → B
 never x n p e = let z : _≡_ {A = ℕ} 0 1 = cc in absurd (omega arith)
@@ -66,6 +69,10 @@ module _ (head : List ℕ) (total : ℕ) where
     pub trace-refused : (id : ℕ) (q : Point) → TraceGiven head total table id q (traced.Refused y) left → Call head total table (λ f n p. TraceUnmet (sceneOf total head f) f id q n × (p ≡ id)) (y .number) (y .place) left
     unfolding Q.trace
     trace-refused id q g = refused-call table left (g .1) _ _ (λ f n p e. trace-unmet f id (sceneOf total head f) q n p e) _ _ (trace-told (Q.trace (length table) total head id q) y (sym (g .0)))
+
+    pub orientation-refused : (id : ℕ) → OrientationGiven head total table id (oriented.Refused y) left → Call head total table (λ f n p. OrientationUnmet f id n × (p ≡ id)) (y .number) (y .place) left
+    unfolding orientation
+    orientation-refused id g = refused-call table left (g .1) _ _ (λ f n p e. orientation-unmet f id (sceneOf total head f) n p e) _ _ (orientation-told (orientation (length table) total head id) y (sym (g .0)))
 
     -- the list is as it was
     pub sources-refused : (id : ℕ) (list list-left : List ℕ) → SourcesGiven head total table id list (listed.Refused y) list-left left → Call head total table (λ f n p. SourcesUnmet (sceneOf total head f) f id (length list) n × (p ≡ id)) (y .number) (y .place) left × (list-left ≡ list)
@@ -125,3 +132,7 @@ module _ (head : List ℕ) (total : ℕ) where
     pub property-same : (id k : ℕ) (told part same l m a b : List ℕ) → PropertyGiven head total t id k told part l a → PropertyGiven head total u id k told same m b → (part ≡ same) × ((l ≡ m) × (take 11280 a ≡ take 11280 b))
     unfolding Q.property
     property-same id k told part same l m a b x y = (asked-same toldPart _ part same (x .0) (y .0), (asked-same (toldFault told) _ l m (x .1 .0) (y .1 .0), after-same a b (x .1 .1) (y .1 .1)))
+
+    pub orientation-same : (id : ℕ) (r s : Oriented) (a b : List ℕ) → OrientationGiven head total t id r a → OrientationGiven head total u id s b → (r ≡ s) × (take 11280 a ≡ take 11280 b)
+    unfolding orientation
+    orientation-same id r s a b x y = (asked-same toldOriented _ r s (x .0) (y .0), after-same a b (x .1) (y .1))

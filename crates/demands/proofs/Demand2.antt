@@ -25,8 +25,10 @@ use Rattle.still.specs.declared.FileVerdict.the-variants as verdict
 use Rattle.still.specs.declared.Sized.{Sized}
 use Rattle.still.specs.declared.Traced.{Traced}
 use Rattle.still.specs.declared.Listed.{Listed}
-use Rattle.still.specs.Told.{toldVerdict, toldSized, toldTraced, toldListed, toldPart, toldFault}
-use Rattle.still.specs.Given.{VerdictGiven, SizeGiven, TraceGiven, SourcesGiven, PropertyGiven}
+use Rattle.still.specs.declared.Oriented.{Oriented}
+use Rattle.facing.specs.Orientation.{orientationIn, orientation}
+use Rattle.still.specs.Told.{toldVerdict, toldSized, toldTraced, toldListed, toldOriented, toldPart, toldFault}
+use Rattle.still.specs.Given.{VerdictGiven, SizeGiven, TraceGiven, SourcesGiven, OrientationGiven, PropertyGiven}
 use Rattle.faults.specs.Good.{GoodFile}
 use Rattle.faults.proofs.GoodLaws.{accepted-good, good-accepted}
 
@@ -76,3 +78,7 @@ module _ (head : List ℕ) (total : ℕ) (table : List ℕ) where
         → (part ≡ toldPart (propertyIn (placesIn total head) f id k)) × ((told-left ≡ toldFault told (propertyIn (placesIn total head) f id k)) × (left ≡ wordsOf total head f ++ drop 11280 table))
     unfolding Q.property
     property-good id k told part told-left left g = (asked toldPart _ part (g .0), (asked (toldFault told) _ told-left (g .1 .0), g .1 .1 ∙ good-after))
+
+    pub orientation-good : (id : ℕ) (r : Oriented) (left : List ℕ) → OrientationGiven head total table id r left → (r ≡ toldOriented (orientationIn (sceneOf total head f) f id)) × (left ≡ wordsOf total head f ++ drop 11280 table)
+    unfolding orientation
+    orientation-good id r left g = (asked toldOriented _ r (g .0), g .1 ∙ good-after)

@@ -2,7 +2,7 @@
 use Prim.Native.Nat.{ℕ}
 use mathlib.Core.Path.{_≡_, sym, _∙_}
 use mathlib.Core.List.{List}
-use Rattle.still_c.specs.Told.{VerdictGiven, SizeGiven, TraceGiven, SourcesGiven, PropertyGiven}
+use Rattle.still_c.specs.Told.{VerdictGiven, SizeGiven, TraceGiven, SourcesGiven, PropertyGiven, OrientationGiven, TransformsGiven}
 use Rattle.demands.proofs.Once.{two}
 
 module _ (head : List ℕ) (total : ℕ) (table : List ℕ) where
@@ -20,3 +20,9 @@ module _ (head : List ℕ) (total : ℕ) (table : List ℕ) where
 
   pub property-once : (item k : ℕ) (r s t u : List ℕ) → PropertyGiven head total table item k r t → PropertyGiven head total table item k s u → (r ≡ s) × (t ≡ u)
   property-once item k r s t u = two
+
+  pub orientation-once : (item : ℕ) (r s t u : List ℕ) → OrientationGiven head total table item r t → OrientationGiven head total table item s u → (r ≡ s) × (t ≡ u)
+  orientation-once item r s t u = two
+
+pub transforms-once : (n : ℕ) (r s : List ℕ) → TransformsGiven n r → TransformsGiven n s → r ≡ s
+transforms-once n r s x y = x ∙ sym y

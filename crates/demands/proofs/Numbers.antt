@@ -1,4 +1,4 @@
--- Demand 1, "a numbered refusal": document 01, "Refusal numbers". Each stage and each question is refused only by the numbers that the table gives to it: 1 "table under 11,280 words"; 2 to 11 in reading; 12 to 20 in judging; 21 "asked item not listed"; 22 "asked item opaque (size, trace, sources)"; 23 "pixel outside output size"; 24 "list shorter than the sources"; 25 "property number 0 or over the item's count". Assumes nothing.
+-- Demand 1, "a numbered refusal": document 01, "Refusal numbers". Each stage and each question is refused only by the numbers that the table gives to it: 1 "table under 11,280 words"; 2 to 11 in reading; 12 to 20 in judging; 21 "asked item not listed"; 22 "asked item opaque (size, trace, sources)"; 23 "pixel outside output size"; 24 "list shorter than the sources"; 25 "property number 0 or over the item's count"; 26 "the item has a `clap`"; 27 "orientation not 1 to 8". Assumes nothing.
 --   words    the length of the table that is lent
 use Prim.Native.Nat.{ℕ, _≤_}
 use native.Mathlib.Omega.{arith}
@@ -16,6 +16,7 @@ use Rattle.rules.specs.Rules.{judged}
 use Rattle.rules.specs.Questions as Q
 use Rattle.faults.specs.Fault.{Rule, Number, n12, n13, n14, n15, n16, n17, n18, n19, n20, ruleOf}
 use Rattle.faults.proofs.JudgedLaws.{judged-first}
+use Rattle.facing.specs.Orientation.{Transform, orientationIn, orientation, transformsIn}
 use Rattle.demands.proofs.NumberLaws.{Only, Inside, only-ok, only-check, only-more, _>>=_, _>>_}
 use Rattle.demands.proofs.ReadNumbers.{read-only}
 
@@ -93,3 +94,12 @@ module _ (total : ℕ) (head : List ℕ) where
     unfolding Q.property Q.propertyIn
     property-number id k =
         asked-number (λ n. Between 1 21 n ⊎ (n ≡ 25)) (λ n h. inl (omega arith, omega arith)) (λ f. listed-only (λ n. Between 1 21 n ⊎ (n ≡ 25)) f id (inl (omega arith, omega arith)) >>= (λ r. only-check 25 id _ (inr refl) >> only-ok))
+
+    pub orientation-number : (id : ℕ) → orientation words total head id ≡ refuse n p → Between 1 22 n ⊎ (n ≡ 26)
+    unfolding orientation orientationIn
+    orientation-number id =
+        asked-number (λ n. Between 1 22 n ⊎ (n ≡ 26)) (λ n h. inl (omega arith, omega arith)) (λ f. pictured-only (λ n. Between 1 22 n ⊎ (n ≡ 26)) f id (inl (omega arith, omega arith)) (inl (omega arith, omega arith)) >>= (λ r. only-check 26 id _ (inr refl) >> only-ok))
+
+pub transforms-number : (k n p : ℕ) → transformsIn k ≡ refuse n p → n ≡ 27
+unfolding transformsIn
+transforms-number k n p = (only-check {P = λ n p. n ≡ 27} 27 0 _ refl >> only-ok) .by n p

@@ -8,8 +8,10 @@ use Rattle.still.specs.declared.FileVerdict.{FileVerdict}
 use Rattle.still.specs.declared.Sized.{Sized}
 use Rattle.still.specs.declared.Traced.{Traced}
 use Rattle.still.specs.declared.Listed.{Listed}
+use Rattle.still.specs.declared.Oriented.{Oriented}
 use Rattle.still.specs.declared.PropertyAsked.{PropertyAsked}
-use Rattle.still.specs.Given.{OpenedGiven, VerdictGiven, SizeGiven, TraceGiven, SourcesGiven, AskedGiven, PropertyGiven}
+use Rattle.facing.specs.declared.TransformList.{TransformList}
+use Rattle.still.specs.Given.{OpenedGiven, VerdictGiven, SizeGiven, TraceGiven, SourcesGiven, OrientationGiven, TransformsGiven, AskedGiven, PropertyGiven}
 
 -- what is given by equations is given once
 pub two : {A B : Type 0} {a r s : A} {b t u : B} → (r ≡ a) × (t ≡ b) → (s ≡ a) × (u ≡ b) → (r ≡ s) × (t ≡ u)
@@ -39,3 +41,9 @@ module _ (head : List ℕ) (total : ℕ) (table : List ℕ) where
 
   pub property-once : (id k : ℕ) (told part same l m t u : List ℕ) → PropertyGiven head total table id k told part l t → PropertyGiven head total table id k told same m u → (part ≡ same) × ((l ≡ m) × (t ≡ u))
   property-once id k told part same l m t u = three
+
+  pub orientation-once : (id : ℕ) (r s : Oriented) (t u : List ℕ) → OrientationGiven head total table id r t → OrientationGiven head total table id s u → (r ≡ s) × (t ≡ u)
+  orientation-once id r s t u = two
+
+pub transforms-once : (n : ℕ) (r s : TransformList) → TransformsGiven n r → TransformsGiven n s → r ≡ s
+transforms-once n r s x y = x ∙ sym y

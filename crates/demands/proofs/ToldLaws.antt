@@ -2,7 +2,7 @@
 use Prim.Native.Nat.{ℕ}
 use native.Mathlib.Omega.{arith}
 use mathlib.Core.Path.{_≡_, refl}
-use mathlib.Core.List.{List}
+use mathlib.Core.List.{List, [], _∷_}
 use mathlib.Core.Bool.{Bool, true, false}
 use Rattle.boxes.specs.declared.Refusal.{Refusal}
 use Rattle.boxes.specs.Answer.{Answer, ok, refuse}
@@ -11,7 +11,11 @@ use Rattle.still.specs.declared.FileVerdict.the-variants as verdict
 use Rattle.still.specs.declared.Sized.the-variants as sized
 use Rattle.still.specs.declared.Traced.the-variants as traced
 use Rattle.still.specs.declared.Listed.the-variants as listed
-use Rattle.still.specs.Told.{toldVerdict, toldSized, toldFound, toldTraced, toldListed}
+use Rattle.still.specs.declared.Oriented.the-variants as oriented
+use Rattle.facing.specs.declared.TransformList.the-variants as transforms
+use Rattle.facing.specs.Orientation.{Transform}
+use Rattle.facing.specs.Told.{toldTransforms}
+use Rattle.still.specs.Told.{toldVerdict, toldSized, toldFound, toldTraced, toldListed, toldOriented}
 
 -- what an answer of any kind is, told by a function that tells refusals by `off` and nothing else by it
 told-refused : {A B : Type 0} (told : Answer A → B) (off : Refusal → B) → ((x : A) (y : Refusal) → told (ok x) ≡ off y → ⊥) → ((n p : ℕ) (y : Refusal) → told (refuse n p) ≡ off y → (n ≡ y .number) × (p ≡ y .place)) → (m : Answer A) (y : Refusal) → told m ≡ off y → m ≡ refuse (y .number) (y .place)
@@ -38,3 +42,23 @@ trace-told = told-refused toldTraced traced.Refused (λ x y e. found-told (x .is
 pub sources-told : (m : Answer (List ℕ)) (y : Refusal) → toldListed m ≡ listed.Refused y → m ≡ refuse (y .number) (y .place)
 unfolding toldListed
 sources-told = told-refused toldListed listed.Refused (λ x y e. let z : _≡_ {A = ℕ} 0 1 = cc in omega arith) (λ n p y e. ((cc), (cc)))
+
+pub orientation-told : (m : Answer ℕ) (y : Refusal) → toldOriented m ≡ oriented.Refused y → m ≡ refuse (y .number) (y .place)
+unfolding toldOriented
+orientation-told = told-refused toldOriented oriented.Refused (λ x y e. let z : _≡_ {A = ℕ} 0 1 = cc in omega arith) (λ n p y e. ((cc), (cc)))
+
+-- and an orientation that is told
+pub orientation-is : (m : Answer ℕ) (n : ℕ) → toldOriented m ≡ oriented.Is n → m ≡ ok n
+unfolding toldOriented
+orientation-is (ok k) n e = let i : k ≡ n = cc in rw i
+orientation-is (refuse k p) n e = let z : _≡_ {A = ℕ} 0 1 = cc in absurd (omega arith)
+
+list-told : (x : List Transform) (y : Refusal) → toldTransforms (ok x) ≡ transforms.Refused y → ⊥
+unfolding toldTransforms
+list-told [] y e = let z : _≡_ {A = ℕ} 0 1 = cc in omega arith
+list-told (a ∷ []) y e = let z : _≡_ {A = ℕ} 0 1 = cc in omega arith
+list-told (a ∷ (b ∷ x)) y e = let z : _≡_ {A = ℕ} 0 1 = cc in omega arith
+
+pub transforms-told : (m : Answer (List Transform)) (y : Refusal) → toldTransforms m ≡ transforms.Refused y → m ≡ refuse (y .number) (y .place)
+unfolding toldTransforms
+transforms-told = told-refused toldTransforms transforms.Refused list-told (λ n p y e. ((cc), (cc)))

@@ -1,5 +1,5 @@
 -- What a call leaves where it is refused: document 01, below "Refusal numbers". "Refusal 1 writes nothing. Refusals 2 to 20 set the table's first 11,280 words to 0. With 21 to 25 the table is the file's. .. Words past 11,280 are never written."
---   Unlisted, IsOpaque, ..          what 21 to 25 say of an item that is asked for
+--   Unlisted, IsOpaque, ..          what 21 to 26 say of an item that is asked for
 --   SizeUnmet, .. f s id .. n       the refusals of a question of a good file, n the number; the place is the asked ID
 --   Call head total table Unmet n p left    a call that is refused by n at p: why, and the table that it leaves
 use Prim.Native.Nat.{ℕ, _≤_, _<_}
@@ -9,14 +9,14 @@ use mathlib.Core.Bool.{true, false}
 use mathlib.Core.Logic.{_⊎_}
 use lib.ListN.{length, replicate, drop}
 use Rattle.fields.specs.Lists.{member}
-use Rattle.boxes.specs.Types.{image}
+use Rattle.boxes.specs.Types.{image, clap}
 use Rattle.contents.specs.Iinf.{Item, idsOf}
 use Rattle.contents.specs.File.{File}
 use Rattle.pictures.specs.declared.Point.{Point}
 use Rattle.pictures.specs.Turn.{Inside}
 use Rattle.pictures.specs.Scene.{Picture, Scene, pictureAt, outputOf}
 use Rattle.pictures.specs.Sources.{sources}
-use Rattle.rules.specs.Joined.{associationsOf, rowOf, itemAt}
+use Rattle.rules.specs.Joined.{associationsOf, typesOf, rowOf, itemAt}
 use Rattle.rules.specs.Words.{wordsOf}
 use Rattle.faults.specs.Good.{GoodFile, Refused}
 
@@ -49,7 +49,12 @@ pub data PropertyUnmet (f : File) (id k n : ℕ) : Type 0 where
   not-listed : n ≡ 21 → member id (idsOf (f .items)) ≡ false → PropertyUnmet f id k n
   no-such : n ≡ 25 → IsListed f id → (k ≡ 0) ⊎ (length (associationsOf f id) < k) → PropertyUnmet f id k n
 
--- Unmet: what 21 to 25 say of a good file
+-- 26: "the item has a `clap`, after 22"
+pub data OrientationUnmet (f : File) (id n : ℕ) : Type 0 where
+  no-picture : SizeUnmet f id n → OrientationUnmet f id n
+  cropped : n ≡ 26 → IsPicture f id → member clap (typesOf f id) ≡ true → OrientationUnmet f id n
+
+-- Unmet: what 21 to 26 say of a good file
 pub data Call (head : List ℕ) (total : ℕ) (table : List ℕ) (Unmet : File → ℕ → ℕ → Type 0) (n p : ℕ) (left : List ℕ) : Type 0 where
   short : length table < 11280 → n ≡ 1 → p ≡ 0 → left ≡ table → Call head total table Unmet n p left
   bad : 11280 ≤ length table → Refused total head n p → left ≡ replicate 11280 0 ++ drop 11280 table → Call head total table Unmet n p left

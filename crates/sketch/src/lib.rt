@@ -12,6 +12,7 @@ use canvas::ZERO;
 use canvas::put;
 use canvas::put_number;
 use canvas::put_with;
+use facing::Faced;
 use pictures::GridRead;
 use pictures::OverlayRead;
 use pictures::Size;
@@ -379,7 +380,16 @@ fn shut(table: &[u32], input: ItemRow, s: Size) -> u32
     0
 }
 
-// Item 2 (iden): 480 x 640 pixels; of which file it is; and what is done to it.
+// The orientation that says an item's transforms, if one does: none says a crop.
+fn put_orientation(head: &[u8], table: &[u32], row: ItemRow) {
+    let o = facing::orientation_of(head, table, row);
+    match o {
+        Faced::Is(n) => put_with(b", orientation ", n),
+        Faced::Cropped => {}
+    }
+}
+
+// Item 2 (iden): 480 x 640 pixels, orientation 8; of which file it is; and what is done to it.
 fn put_title(head: &[u8], table: &[u32], row: ItemRow) {
     let s = sizing::declared_in(table, row);
     let o = sizing::output_in(table, row);
@@ -391,8 +401,10 @@ fn put_title(head: &[u8], table: &[u32], row: ItemRow) {
     canvas::put_kind(views::type_of(table, row));
     put(b"): ");
     canvas::put_times(o.wide, o.high);
+    put(b" pixels");
+    put_orientation(head, table, row);
     put_with(
-        b" pixels</text>\n<text x='1170' y='38' text-anchor='end'>items: ",
+        b"</text>\n<text x='1170' y='38' text-anchor='end'>items: ",
         table::word(table, 0),
     );
     put_with(b", primary item: ", table::word(table, 5));

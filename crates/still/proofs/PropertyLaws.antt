@@ -32,7 +32,7 @@ use Rattle.still.specs.declared.PropertyAsked.the-variants as asked
 use Rattle.still.proofs.QuestionLaws.{opened-refused}
 
 -- rowOf: the item in its row
-row-holds : (is : List Item) (id : ℕ) → member id (idsOf is) ≡ true → getD is (rowOf id is) noItem .id ≡ id
+pub row-holds : (is : List Item) (id : ℕ) → member id (idsOf is) ≡ true → getD is (rowOf id is) noItem .id ≡ id
 unfolding rowOf
 row-holds [] id e = untrue e
 row-holds (i ∷ is) id e = both (λ (k : ℕ). getD (i ∷ is) k noItem .id ≡ id) (eqb (i .id) id) 0 (suc (rowOf id is)) (λ q. eqb-true (i .id) id q) (λ q. row-holds is id (rest q))

@@ -1,5 +1,5 @@
 -- Document 01's number and values for each case of the answers' enums: "A refusal returns number and place; other numbers are 0".
---   toldOpened, toldVerdict, toldPictured, toldSized, toldTraced, toldListed, toldAsked    the code's value for an answer
+--   toldOpened, toldVerdict, toldPictured, toldSized, toldTraced, toldListed, toldOriented, toldAsked    the code's value for an answer
 --   indexIn f id k       which property the association k, from 1, of an item names; 21, then 25
 --   toldPart, toldFault  the part that is returned, empty where it is refused, and a lent list with number and place of the refusal, 0 where there is none
 use Prim.Native.Nat.{ℕ, _-_}
@@ -26,6 +26,8 @@ use Rattle.still.specs.declared.Traced.{Traced}
 use Rattle.still.specs.declared.Traced.the-variants as traced
 use Rattle.still.specs.declared.Listed.{Listed}
 use Rattle.still.specs.declared.Listed.the-variants as listed
+use Rattle.still.specs.declared.Oriented.{Oriented}
+use Rattle.still.specs.declared.Oriented.the-variants as oriented
 use Rattle.still.specs.declared.PropertyAsked.{PropertyAsked}
 use Rattle.still.specs.declared.PropertyAsked.the-variants as asked
 
@@ -61,6 +63,10 @@ toldTraced (refuse n p) = traced.Refused (record { number = n; place = p })
 unfoldable pub toldListed : Answer (List ℕ) → Listed
 toldListed (ok ids) = listed.Is (length ids)
 toldListed (refuse n p) = listed.Refused (record { number = n; place = p })
+
+unfoldable pub toldOriented : Answer ℕ → Oriented
+toldOriented (ok n) = oriented.Is n
+toldOriented (refuse n p) = oriented.Refused (record { number = n; place = p })
 
 unfoldable pub indexIn : File → ℕ → ℕ → Answer ℕ
 indexIn f id k = do

@@ -11,13 +11,16 @@ ghost use Rattle.rules.specs.Questions as Q;
 ghost use Rattle.views.specs.View.{TableOf, SizesAre};
 ghost use Rattle.pictures.specs.Trace as Trace;
 ghost use Rattle.derived.specs.Told.{Resolved};
+ghost use Rattle.facing.specs.Orientation.{orientationIn};
 ghost use Rattle.tracing.specs.Told.{Shown, toldEnd};
 ghost use Rattle.still.specs.declared.Opened.the-variants.{Accepted};
-ghost use Rattle.still.specs.Told.{endRow, toldPictured, toldSized, toldTraced, toldListed, indexIn, toldAsked, toldBy};
-ghost use Rattle.still.specs.Given.{OpenedGiven, VerdictGiven, SizeGiven, TraceGiven, SourcesGiven, AskedGiven, PropertyGiven};
+ghost use Rattle.still.specs.Told.{endRow, toldPictured, toldSized, toldTraced, toldListed, toldOriented, indexIn, toldAsked, toldBy};
+ghost use Rattle.still.specs.Given.{OpenedGiven, VerdictGiven, SizeGiven, TraceGiven, SourcesGiven, OrientationGiven, TransformsGiven, AskedGiven, PropertyGiven};
 ghost use Rattle.boxes.specs.Answer.{ok};
 ghost use Prim.Native.Nat.{_<_};
 use boxes::Refusal;
+use facing::Faced;
+use facing::TransformList;
 use judging::Judged;
 use pictures::Point;
 use reading::FileRead;
@@ -257,6 +260,46 @@ pub fn sources(head: &[u8], total: u64, table: &mut [u32], id: ItemId, list: &mu
         Opened::Refused(f) => Listed::Refused(f),
         Opened::Accepted => sources_in(&*table, &rows, id, list),
     }
+}
+
+pub enum Oriented {
+    Is(u32),
+    Refused(Refusal),
+}
+
+// The orientation of an item of an accepted file's table: 21, 22, then 26.
+fn orientation_in(head: &[u8], table: &[u32], id: ItemId) -> Oriented
+    ensures { λ r. ⌜ ((total : ℕ) (pl : Places) (f : File) → TableOf (now (table .entry)) (now (head .entry)) pl f → r ≡ toldOriented (orientationIn (sceneOf total (now (head .entry)) f) f (id .0))) ⌝ }
+{
+    let p = picture_row(table, id);
+    match p {
+        Pictured::Refused(f) => Oriented::Refused(f),
+        Pictured::At(row) => {
+            let o = facing::orientation_of(head, table, row);
+            match o {
+                Faced::Cropped => Oriented::Refused(refusal(26, id)),
+                Faced::Is(n) => Oriented::Is(n),
+            }
+        }
+    }
+}
+
+// The number of 1 to 8 that says what the transforms of an item do.
+pub fn orientation(head: &[u8], total: u64, table: &mut [u32], id: ItemId) -> Oriented
+    ensures { λ r. ⌜ OrientationGiven (now (head .entry)) total (now (table .entry)) (id .0) r (now (table .exit)) ⌝ }
+{
+    let o = open_file(head, total, table);
+    match o {
+        Opened::Refused(f) => Oriented::Refused(f),
+        Opened::Accepted => orientation_in(head, &*table, id),
+    }
+}
+
+// The shortest list of transforms that does what an orientation says: 27 where it is none of 1 to 8. No file is read.
+pub fn transforms(orientation: u32) -> TransformList
+    ensures { λ r. ⌜ TransformsGiven orientation r ⌝ }
+{
+    facing::transforms_for(orientation)
 }
 
 pub enum PropertyAsked {

@@ -1,7 +1,7 @@
 -- The answers as C is given them, eight numbers each: "A refusal returns number and place; other numbers are 0", then the answer's values in document 01's order.
 --   outRefused           number and place of a refusal
---   outVerdict, outSized, outTraced, outListed, outPart     the eight numbers for an answer
---   VerdictGiven, SizeGiven, TraceGiven, SourcesGiven, PropertyGiven     all that a call leaves: `out`, the list, the table, from what it was lent
+--   outVerdict, outSized, outTraced, outListed, outPart, outOrientation, outTransforms     the eight numbers for an answer
+--   VerdictGiven, SizeGiven, TraceGiven, SourcesGiven, PropertyGiven, OrientationGiven, TransformsGiven     all that a call leaves: `out`, the list, the table, from what it was lent
 use Prim.Native.Nat.{ℕ}
 use mathlib.Core.Path.{_≡_}
 use mathlib.Core.List.{List, [], _∷_}
@@ -12,6 +12,7 @@ use Rattle.pictures.specs.declared.Point.{Point}
 use Rattle.pictures.specs.Turn.{point}
 use Rattle.rules.specs.Questions.{after, listAfter}
 use Rattle.rules.specs.Questions as Q
+use Rattle.facing.specs.Orientation.{Transform, irot, imir, orientation, transformsIn}
 
 abbrev pub outRefused : ℕ → ℕ → List ℕ
 outRefused n p = n ∷ p ∷ 0 ∷ 0 ∷ 0 ∷ 0 ∷ 0 ∷ 0 ∷ []
@@ -45,6 +46,27 @@ unfoldable pub outPart : Answer Q.Part → List ℕ
 outPart (ok p) = 0 ∷ 0 ∷ p .offset ∷ length (p .bytes) ∷ 0 ∷ 0 ∷ 0 ∷ 0 ∷ []
 outPart (refuse n p) = outRefused n p
 
+-- Q-3: "one Exif orientation, 1 to 8"
+unfoldable pub outOrientation : Answer ℕ → List ℕ
+outOrientation (ok n) = 0 ∷ 0 ∷ n ∷ 0 ∷ 0 ∷ 0 ∷ 0 ∷ 0 ∷ []
+outOrientation (refuse n p) = outRefused n p
+
+-- 1 stands for an `irot`, 2 for an `imir`
+unfoldable pub kindNumber : Transform → ℕ
+kindNumber (irot a) = 1
+kindNumber (imir a) = 2
+
+unfoldable pub valueIn : Transform → ℕ
+valueIn (irot a) = a
+valueIn (imir a) = a
+
+-- how many, then kind and value of each; no orientation has more than two
+unfoldable pub outTransforms : Answer (List Transform) → List ℕ
+outTransforms (ok []) = 0 ∷ 0 ∷ 0 ∷ 0 ∷ 0 ∷ 0 ∷ 0 ∷ 0 ∷ []
+outTransforms (ok (a ∷ [])) = 0 ∷ 0 ∷ 1 ∷ kindNumber a ∷ valueIn a ∷ 0 ∷ 0 ∷ 0 ∷ []
+outTransforms (ok (a ∷ (b ∷ ts))) = 0 ∷ 0 ∷ 2 ∷ kindNumber a ∷ valueIn a ∷ kindNumber b ∷ valueIn b ∷ 0 ∷ []
+outTransforms (refuse n p) = outRefused n p
+
 -- What a call leaves in `out`, in the list and in the table.
 abbrev pub VerdictGiven : List ℕ → ℕ → List ℕ → List ℕ → List ℕ → Type 0
 VerdictGiven head total table out left =
@@ -71,3 +93,11 @@ abbrev pub PropertyGiven : List ℕ → ℕ → List ℕ → ℕ → ℕ → Lis
 PropertyGiven head total table item k out left =
     (out ≡ outPart (Q.property (length table) total head item k))
     × (left ≡ after total head table)
+
+abbrev pub OrientationGiven : List ℕ → ℕ → List ℕ → ℕ → List ℕ → List ℕ → Type 0
+OrientationGiven head total table item out left =
+    (out ≡ outOrientation (orientation (length table) total head item))
+    × (left ≡ after total head table)
+
+abbrev pub TransformsGiven : ℕ → List ℕ → Type 0
+TransformsGiven n out = out ≡ outTransforms (transformsIn n)

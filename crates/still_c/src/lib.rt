@@ -1,4 +1,4 @@
-// The five questions for C. `out` gets eight numbers: a refusal's number and place, or 0 and 0 and then the answer's values; the rest is 0.
+// The questions for C. `out` gets eight numbers: a refusal's number and place, or 0 and 0 and then the answer's values; the rest is 0.
 ghost use mathlib.Core.Path.{_≡_};
 ghost use mathlib.Core.List.{List, _++_};
 ghost use Prim.Native.Nat.{ℕ, _<_, _≤_};
@@ -10,12 +10,17 @@ ghost use Rattle.rules.specs.Words.{wordsOf};
 ghost use Rattle.rules.specs.Questions.{after, partOf};
 ghost use Rattle.rules.specs.Questions as Q;
 ghost use Rattle.views.specs.View.{TableOf};
-ghost use Rattle.still.specs.Told.{toldVerdict, toldSized, toldTraced, toldListed, toldAsked, indexOf};
-ghost use Rattle.still_c.specs.Told.{outRefused, outVerdict, outSized, outTraced, outListed, outPart, VerdictGiven, SizeGiven, TraceGiven, SourcesGiven, PropertyGiven};
+ghost use Rattle.facing.specs.Orientation as Orientation;
+ghost use Rattle.facing.specs.Told.{toldTransform, toldTransforms};
+ghost use Rattle.still.specs.Told.{toldVerdict, toldSized, toldTraced, toldListed, toldOriented, toldAsked, indexOf};
+ghost use Rattle.still_c.specs.Told.{outRefused, outVerdict, outSized, outTraced, outListed, outPart, outOrientation, kindNumber, valueIn, outTransforms, VerdictGiven, SizeGiven, TraceGiven, SourcesGiven, PropertyGiven, OrientationGiven, TransformsGiven};
 use boxes::Refusal;
+use facing::Transform;
+use facing::TransformList;
 use pictures::Point;
 use still::FileVerdict;
 use still::Listed;
+use still::Oriented;
 use still::PropertyAsked;
 use still::Sized;
 use still::Traced;
@@ -186,4 +191,81 @@ pub extern "C" fn still_property(
 {
     let a = still::property_asked(head, total, table, ItemId(item), k);
     *out = property_numbers(&*table, a);
+}
+
+// The number of 1 to 8.
+fn oriented_numbers(o: Oriented) -> [u64; 8]
+    ensures { λ r. ⌜ ((m : Answer ℕ) → o ≡ toldOriented m → r ≡ outOrientation m) ⌝ }
+{
+    match o {
+        Oriented::Refused(f) => refused_numbers(f),
+        Oriented::Is(n) => [0, 0, n as u64, 0, 0, 0, 0, 0],
+    }
+}
+
+// The orientation of an item.
+#[no_mangle]
+pub extern "C" fn still_orientation(
+    head: &[u8],
+    total: u64,
+    table: &mut [u32],
+    item: u32,
+    out: &mut [u64; 8],
+)
+    ensures { λ _. ⌜ OrientationGiven (now (head .entry)) total (now (table .entry)) item (now (out .exit)) (now (table .exit)) ⌝ }
+{
+    let o = still::orientation(head, total, table, ItemId(item));
+    *out = oriented_numbers(o);
+}
+
+// 1 for an `irot`, 2 for an `imir`.
+fn kind_number(t: Transform) -> u64
+    ensures { λ r. ⌜ ((x : Orientation.Transform) → t ≡ toldTransform x → r ≡ kindNumber x) ⌝ }
+{
+    match t {
+        Transform::Irot(_) => 1,
+        Transform::Imir(_) => 2,
+    }
+}
+
+// The value that its box holds.
+fn value_in(t: Transform) -> u64
+    ensures { λ r. ⌜ ((x : Orientation.Transform) → t ≡ toldTransform x → r ≡ valueIn x) ⌝ }
+{
+    match t {
+        Transform::Irot(a) => a as u64,
+        Transform::Imir(a) => a as u64,
+    }
+}
+
+// How many, then kind and value of each.
+fn transforms_numbers(l: TransformList) -> [u64; 8]
+    ensures { λ r. ⌜ ((m : Answer (List Orientation.Transform)) → l ≡ toldTransforms m → r ≡ outTransforms m) ⌝ }
+{
+    match l {
+        TransformList::Refused(f) => refused_numbers(f),
+        TransformList::None => [0; 8],
+        TransformList::One(a) => [0, 0, 1, kind_number(a), value_in(a), 0, 0, 0],
+        TransformList::Two(a, b) => {
+            [
+                0,
+                0,
+                2,
+                kind_number(a),
+                value_in(a),
+                kind_number(b),
+                value_in(b),
+                0,
+            ]
+        }
+    }
+}
+
+// The transforms of an orientation.
+#[no_mangle]
+pub extern "C" fn still_transforms(orientation: u32, out: &mut [u64; 8])
+    ensures { λ _. ⌜ TransformsGiven orientation (now (out .exit)) ⌝ }
+{
+    let l = still::transforms(orientation);
+    *out = transforms_numbers(l);
 }

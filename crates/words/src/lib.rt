@@ -1,5 +1,6 @@
-// What each refusal says, in words. A sentence is a subject, which the place tells, and the words: `iloc` ends inside one of its fields, item 5 is made from itself.
+// What each refusal says, in words, and each orientation. A refusal's sentence is a subject, which the place tells, and the words: `iloc` ends inside one of its fields, item 5 is made from itself.
 mod numbers;
+mod orientation;
 
 ghost use mathlib.Core.Path.{_≡_};
 ghost use Rattle.words.specs.Subject.{kindOf, printable, text};
@@ -9,6 +10,10 @@ use numbers::print_box_words;
 use numbers::print_item_words;
 use numbers::print_other_words;
 pub use numbers::say;
+pub use orientation::has_second_step;
+pub use orientation::print_first_step;
+pub use orientation::print_orientation;
+pub use orientation::print_second_step;
 
 // What the place of a refusal tells: nothing, where a box begins in the head, an item's ID, the ID that was asked for.
 pub enum PlaceKind {
@@ -33,7 +38,7 @@ pub fn place_kind(number: u32) -> PlaceKind
     if number < 21 {
         return PlaceKind::Item;
     }
-    if number < 26 {
+    if number < 27 {
         return PlaceKind::Asked;
     }
     PlaceKind::Nothing

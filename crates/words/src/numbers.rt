@@ -4,7 +4,7 @@ pub fn say(fd: i32, text: &[u8]) {
     io::write_all(fd, text);
 }
 
-// 1, 2, 4 and 5: whole sentences.
+// 1, 2, 4, 5 and 27: whole sentences.
 pub fn print_other_words(fd: i32, number: u32) {
     match number {
         1 => say(fd, b"the table that was lent has fewer than 11,280 words"),
@@ -17,6 +17,7 @@ pub fn print_other_words(fd: i32, number: u32) {
             b"the file does not begin with an `ftyp` that names the brand `mif1`",
         ),
         5 => say(fd, b"there is no `meta` wholly in the first 65,536 bytes"),
+        27 => say(fd, b"an orientation is one of 1 to 8"),
         _ => {}
     }
 }
@@ -78,7 +79,7 @@ pub fn print_item_words(fd: i32, number: u32) {
     }
 }
 
-// 21 to 25: of the item that was asked for.
+// 21 to 26: of the item that was asked for.
 pub fn print_asked_words(fd: i32, number: u32) {
     match number {
         21 => say(fd, b"is not listed"),
@@ -89,6 +90,7 @@ pub fn print_asked_words(fd: i32, number: u32) {
             b"needs more sources than the list that was lent has room for",
         ),
         25 => say(fd, b"has no property with that number"),
+        26 => say(fd, b"has a crop, and an orientation cannot say one"),
         _ => {}
     }
 }

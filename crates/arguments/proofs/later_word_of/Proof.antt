@@ -12,7 +12,25 @@ returns c = simp (sym (c .before .is-word .ensures) ∙ c .if1 .taken)
 
 returns-2 : tie.Need-returns-2
 unfolding laterWordOf pick
-returns-2 c = simp (sym (c .before .is-word .ensures) ∙ c .if1 .left)
+returns-2 c =
+    let b = c .before .before .before in
+    simp (sym (b .before .is-word .ensures) ∙ b .if1 .left, sym (c .before .is-word2 .ensures) ∙ c .if2 .taken)
+
+returns-3 : tie.Need-returns-3
+unfolding laterWordOf pick
+returns-3 c =
+    let a = c .before .before .before in
+    let b = a .before .before .before in
+    simp (sym (b .before .is-word .ensures) ∙ b .if1 .left, sym (a .before .is-word2 .ensures) ∙ a .if2 .left, sym (c .before .is-word3 .ensures) ∙ c .if3 .taken)
+
+returns-4 : tie.Need-returns-4
+unfolding laterWordOf pick
+returns-4 c =
+    let a = c .before .before .before in
+    let b = a .before .before .before in
+    simp (sym (b .before .is-word .ensures) ∙ b .if1 .left, sym (a .before .is-word2 .ensures) ∙ a .if2 .left, sym (c .before .is-word3 .ensures) ∙ c .if3 .left)
 
 pub later-word-of-spec : {M : Type 1} → statement M
-later-word-of-spec = tie.close (tie.spec (search needs) (λ c κs. search needs) returns returns-2)
+later-word-of-spec =
+    tie.close (tie.spec (search needs) (λ c κs. search needs) returns (search needs) (λ c κs. search needs) returns-2
+    (search needs) (λ c κs. search needs) returns-3 returns-4)

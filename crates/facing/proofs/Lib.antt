@@ -1,0 +1,4 @@
+pub mod FacingLaws
+pub mod TurnsLaws
+pub mod FacedLaws
+pub mod FitsLaws

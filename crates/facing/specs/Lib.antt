@@ -1,0 +1,3 @@
+pub mod Orientation
+pub mod Facings
+pub mod Told

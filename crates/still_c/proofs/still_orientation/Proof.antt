@@ -1,0 +1,10 @@
+-- `still_c::still_orientation` meets its contract. Assumes nothing.
+use borrow.Author.Needs.{needs}
+use Rattle.still_c.proofs.still_orientation.Statement.{statement}
+use Rattle.still_c.proofs.still_orientation.Tie as tie
+
+returns : tie.Need-returns
+returns c = (c .oriented-numbers .ensures _ (c .before .before .before .orientation .ensures .0), c .before .before .before .orientation .ensures .1)
+
+pub still-orientation-spec : {M : Type 1} → statement M
+still-orientation-spec = tie.close (tie.spec (search needs) (search needs) (search needs) returns)
