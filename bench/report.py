@@ -18,6 +18,7 @@ SAID = {
     "tiles-250": "250 tiles, 251 items",
     "fullest": "every limit reached, 16 deep",
     "shared-deep": "128 shared inputs, 16 deep",
+    "crops-256": "256 items, each with a crop of half offsets",
     "refused-boxes": "8,189 smallest boxes, no `meta`",
     "refused-meta": "8,150 smallest boxes in `meta`, no `hdlr`",
     "refused-references-first": "some 27,000 references to the first item, the last unlisted",
@@ -39,6 +40,11 @@ SAID = {
     "ids-slots-rising": "256 items, IDs made to share few of our slots, rising",
     "ids-slots-shuffled": "the same in no order",
     "refused-references-slots": "some 27,000 references in no order to them",
+    "costly-refs-one-slot-129": "129 IDs of one slot, one deep row named again and again",
+    "costly-ground-hub": "a zigzag chain that grounds little in each sweep, over a hub of 1,800 inputs",
+    "costly-cyc-hub-253": "253 `iden` over one hub, each asked whether it is made from itself",
+    "costly-trace-opaque": "2,048 overlay inputs, each searched for in a trace",
+    "costly-acc-zig16": "depth sweeps over zigzag layers",
 }
 
 
@@ -138,6 +144,11 @@ def aims(results):
     per_byte = {n: results.proved("verdict", n) / results.cases[n] for n in measured if results.cases[n] > 1500}
     # IDs in no order, made to share our slots, are searched for: records in ID order (document 02, Q-6) would mend that.
     left = {n: per_byte.pop(n) for n in list(per_byte) if "-slots" in n}
+    # Files that were searched out to be costly, three of them with plain IDs 1 to n; every call counts.
+    costly = {
+        (q, n): results.proved(q, n) / results.cases[n] for n in list(per_byte) if n.startswith("costly-") for q in QUESTIONS
+    }
+    per_byte = {n: cost for n, cost in per_byte.items() if not n.startswith("costly-")}
     high, low = max(per_byte, key=per_byte.get), min(per_byte, key=per_byte.get)
     text += aim(
         f"cost in step with bytes (files over 1,500 bytes, verdict): {per_byte[low]:.1f} instructions a byte "
@@ -149,6 +160,13 @@ def aims(results):
         f"the same for IDs made to share our slots, which only document 02's Q-6 mends: {left[high]:.1f} ({high})",
         left[high] <= 40,
     )
+    if costly:
+        (question, name), most = max(costly.items(), key=lambda item: item[1])
+        text += aim(
+            f"the same for files searched out to be costly, any question: {most:.1f} ({question} of {name}); "
+            f"{sum(1 for cost in costly.values() if cost > 40)} of {len(costly)} calls are over 40",
+            most <= 40,
+        )
     for order in ORDERS:
         a, b = results.proved("verdict", f"growth-{order}-128"), results.proved("verdict", f"growth-{order}-256")
         text += aim(f"twice the items at most 2.2 times the cost, {order} IDs: {b / a:.2f} times", b <= 2.2 * a)
@@ -254,7 +272,7 @@ Made by `bench/run`; do not edit. Each number is the x86-64 instructions of one 
 processors, by bench/plugin.c in qemu; it is the same in every run. Cells hold the proved library, the second reading
 (tests/second/second.c by the kit's own clang at -O3 -march=x86-64) and the proved one as a multiple of the second. Both
 take `memset` and `memcpy` from the same C library, held to its plain x86-64 versions. Files are made by bench/files.py;
-`stress-*` are the conformance folder's.
+`stress-*` are the conformance folder's, `costly-*` were searched out to be costly (../shared/costly).
 
 """
 

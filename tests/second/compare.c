@@ -21,23 +21,35 @@ enum {
     PAGE = 4096,
     WORDS = 11280,
     TABLE_ROOM = 12 * PAGE,
-    LIST_ROOM = PAGE,
+    LIST_ROOM = 5 * PAGE,
+    POINT_WORDS = 9,
     OUT_ROOM = PAGE,
+    BUFFER_ROOM = 17 * PAGE, /* a head and a page */
+    BODY = 16402,
+    ENOUGH = 20, /* differences: more would tell nothing new */
     HEAD_ROOM = STILL_ROOM,
-    POOL = TABLE_ROOM + 64 * 1024
+    POOL = BUFFER_ROOM + 64 * 1024
 };
 
-enum question { VERDICT, SIZE, TRACE, SOURCES, PROPERTY, ORIENTATION, TRANSFORMS };
+enum question {
+    VERDICT, SIZE, TRACE, SOURCES, PROPERTY, ORIENTATION, TRANSFORMS, POINTS, BODY_OF, MATRIX, MATRIX_TRACE, BYTES, REWRITE,
+    REPORT, SOUND_SIZE, SOUND_TRACE, SOUND_SOURCES
+};
 
-static const char *const question_name[] = {"verdict", "size", "trace", "sources", "property", "orientation", "transforms"};
+static const char *const question_name[] = {"verdict",     "size",       "trace", "sources", "property",
+                                            "orientation", "transforms", "points",  "body",
+                                            "matrix",      "matrix-trace", "bytes", "rewrite", "report",
+                                            "sound-size",  "sound-trace",  "sound-sources"};
 
-/* The level from which on a call may be refused by a number. */
-static const uint8_t number_since[] = {[26] = 3, [27] = 3};
+/* The level from which on a call may be refused by a number; 99: never. */
+static const uint8_t number_since[] = {[26] = 3,  [27] = 3,  [28] = 4,  [29] = 5,  [30] = 7,  [31] = 7,  [32] = 10,
+                                       [33] = 10, [34] = 99, [35] = 99, [36] = 99, [37] = 11, [38] = 11, [39] = 12};
 
 struct call {
     enum question question;
-    uint32_t item, x, y; /* x is also the property's number, or the orientation */
-    size_t table_len, list_len;
+    uint32_t item, x, y; /* x is also the property's number, or the orientation; with points both are the sides */
+    size_t table_len, list_len; /* in words; a point has nine of them */
+    size_t buffer_len;          /* in bytes */
     int far; /* slices end at the guard page behind them, else begin at the one before */
 };
 
@@ -48,13 +60,14 @@ struct arena {
 };
 
 struct side {
-    struct arena table, list, out;
+    struct arena table, list, buffer, out;
 };
 
 static struct side sides[2]; /* the proved library, the second reading */
-static struct arena head;    /* read-only; written through head_writer */
-static uint8_t *head_writer;
+static struct arena head, companion; /* read-only; written through the writers */
+static uint8_t *head_writer, *companion_writer;
 static uint8_t pool[POOL]; /* random bytes that slices are filled from */
+static uint8_t list_fill[LIST_ROOM]; /* what the list held before: random, with points in it where they are asked for */
 static struct still still;
 static struct call asked;
 static int running = -1; /* which side, for the report of a crash */
@@ -78,17 +91,17 @@ static struct arena make_arena(size_t room)
 }
 
 /* Two views of the same memory: one to write the file through, one to lend. */
-static void make_head(void)
+static void make_lent(struct arena *lent, uint8_t **writer)
 {
-    int memory = memfd_create("head", 0);
+    int memory = memfd_create("lent", 0);
     if (memory < 0 || ftruncate(memory, HEAD_ROOM) != 0)
         fail("memfd_create");
     uint8_t *p = mmap(NULL, HEAD_ROOM + 2 * PAGE, PROT_NONE, MAP_PRIVATE | MAP_ANONYMOUS, -1, 0);
     if (p == MAP_FAILED || mmap(p + PAGE, HEAD_ROOM, PROT_READ, MAP_SHARED | MAP_FIXED, memory, 0) == MAP_FAILED)
         fail("mmap");
-    head = (struct arena){p + PAGE, HEAD_ROOM};
-    head_writer = mmap(NULL, HEAD_ROOM, PROT_READ | PROT_WRITE, MAP_SHARED, memory, 0);
-    if (head_writer == MAP_FAILED)
+    *lent = (struct arena){p + PAGE, HEAD_ROOM};
+    *writer = mmap(NULL, HEAD_ROOM, PROT_READ | PROT_WRITE, MAP_SHARED, memory, 0);
+    if (*writer == MAP_FAILED)
         fail("mmap");
 }
 
@@ -99,36 +112,75 @@ static size_t place(const struct arena *arena, size_t bytes, int far)
 
 /* ---- One call, on one side ---- */
 
-static void call_still(const struct call *c, const uint8_t *p, uint32_t *table, uint32_t *list, uint64_t *out)
+/* What is lent of the file at `p` and, from Q-10 on, of its companion at `q`. */
+#if LEVEL >= 10
+#define LENT p, still.length, still.total, q, still.companion_length, still.companion_total
+#else
+#define LENT p, still.length, still.total
+#endif
+
+static void call_still(const struct call *c, const uint8_t *p, const uint8_t *q, uint32_t *table, uint32_t *list,
+                       uint8_t *buffer, uint64_t *out)
 {
-    size_t n = still.length;
-    uint64_t total = still.total;
+    (void)buffer, (void)q;
     switch (c->question) {
-    case VERDICT: still_verdict(p, n, total, table, c->table_len, out); break;
-    case SIZE: still_size(p, n, total, table, c->table_len, c->item, out); break;
-    case TRACE: still_trace(p, n, total, table, c->table_len, c->item, c->x, c->y, out); break;
-    case SOURCES: still_sources(p, n, total, table, c->table_len, c->item, list, c->list_len, out); break;
-    case PROPERTY: still_property(p, n, total, table, c->table_len, c->item, c->x, out); break;
+    case VERDICT: still_verdict(LENT, table, c->table_len, out); break;
+    case SIZE: still_size(LENT, table, c->table_len, c->item, out); break;
+    case TRACE: still_trace(LENT, table, c->table_len, c->item, c->x, c->y, out); break;
+    case SOURCES: still_sources(LENT, table, c->table_len, c->item, list, c->list_len, out); break;
+    case PROPERTY: still_property(LENT, table, c->table_len, c->item, c->x, out); break;
 #if LEVEL >= 3
-    case ORIENTATION: still_orientation(p, n, total, table, c->table_len, c->item, out); break;
+    case ORIENTATION: still_orientation(LENT, table, c->table_len, c->item, out); break;
     case TRANSFORMS: still_transforms(c->x, out); break;
+#endif
+#if LEVEL >= 4
+    case POINTS: still_points(LENT, table, c->table_len, c->item, list, c->list_len / POINT_WORDS, out); break;
+#endif
+#if LEVEL >= 7
+    case BODY_OF: still_body(LENT, table, c->table_len, c->item, buffer, c->buffer_len, out); break;
+#endif
+#if LEVEL >= 9
+    case MATRIX: still_matrix(LENT, table, c->table_len, c->item, out); break;
+    case MATRIX_TRACE: still_trace_by_matrix(LENT, table, c->table_len, c->item, c->x, c->y, out); break;
+#endif
+#if LEVEL >= 10
+    case BYTES: still_bytes(LENT, table, c->table_len, c->item, out); break;
+#endif
+#if LEVEL >= 11
+    case REWRITE: still_rewrite(LENT, table, c->table_len, buffer, c->buffer_len, out); break;
+#endif
+#if LEVEL >= 12
+    case REPORT: still_report(LENT, table, c->table_len, list, c->list_len, out); break;
+    case SOUND_SIZE: still_sound_size(LENT, table, c->table_len, c->item, out); break;
+    case SOUND_TRACE: still_sound_trace(LENT, table, c->table_len, c->item, c->x, c->y, out); break;
+    case SOUND_SOURCES: still_sound_sources(LENT, table, c->table_len, c->item, list, c->list_len, out); break;
 #endif
     default: break;
     }
 }
 
-static void call_second(const struct call *c, const uint8_t *p, uint32_t *table, uint32_t *list, uint64_t *out)
+static void call_second(const struct call *c, const uint8_t *p, const uint8_t *q, uint32_t *table, uint32_t *list,
+                        uint8_t *buffer, uint64_t *out)
 {
-    size_t n = still.length;
-    uint64_t total = still.total;
+    (void)q;
     switch (c->question) {
-    case VERDICT: second_verdict(p, n, total, table, c->table_len, out); break;
-    case SIZE: second_size(p, n, total, table, c->table_len, c->item, out); break;
-    case TRACE: second_trace(p, n, total, table, c->table_len, c->item, c->x, c->y, out); break;
-    case SOURCES: second_sources(p, n, total, table, c->table_len, c->item, list, c->list_len, out); break;
-    case PROPERTY: second_property(p, n, total, table, c->table_len, c->item, c->x, out); break;
-    case ORIENTATION: second_orientation(p, n, total, table, c->table_len, c->item, out); break;
+    case VERDICT: second_verdict(LENT, table, c->table_len, out); break;
+    case SIZE: second_size(LENT, table, c->table_len, c->item, out); break;
+    case TRACE: second_trace(LENT, table, c->table_len, c->item, c->x, c->y, out); break;
+    case SOURCES: second_sources(LENT, table, c->table_len, c->item, list, c->list_len, out); break;
+    case PROPERTY: second_property(LENT, table, c->table_len, c->item, c->x, out); break;
+    case ORIENTATION: second_orientation(LENT, table, c->table_len, c->item, out); break;
     case TRANSFORMS: second_transforms(c->x, out); break;
+    case POINTS: second_points(LENT, table, c->table_len, c->item, list, c->list_len / POINT_WORDS, out); break;
+    case BODY_OF: second_body(LENT, table, c->table_len, c->item, buffer, c->buffer_len, out); break;
+    case MATRIX: second_matrix(LENT, table, c->table_len, c->item, out); break;
+    case MATRIX_TRACE: second_trace_by_matrix(LENT, table, c->table_len, c->item, c->x, c->y, out); break;
+    case BYTES: second_bytes(LENT, table, c->table_len, c->item, out); break;
+    case REWRITE: second_rewrite(LENT, table, c->table_len, buffer, c->buffer_len, out); break;
+    case REPORT: second_report(LENT, table, c->table_len, list, c->list_len, out); break;
+    case SOUND_SIZE: second_sound_size(LENT, table, c->table_len, c->item, out); break;
+    case SOUND_TRACE: second_sound_trace(LENT, table, c->table_len, c->item, c->x, c->y, out); break;
+    case SOUND_SOURCES: second_sound_sources(LENT, table, c->table_len, c->item, list, c->list_len, out); break;
     }
 }
 
@@ -147,17 +199,30 @@ static uint32_t *list_of(int side)
     return (uint32_t *)(sides[side].list.start + place(&sides[side].list, 4 * asked.list_len, asked.far));
 }
 
+static uint8_t *buffer_of(int side)
+{
+    return sides[side].buffer.start + place(&sides[side].buffer, asked.buffer_len, asked.far);
+}
+
+static int has_buffer(void)
+{
+    return asked.question == BODY_OF || asked.question == REWRITE;
+}
+
 static void run_side(int side, const uint8_t *fill)
 {
     const uint8_t *p = head.start + place(&head, still.length, asked.far);
+    const uint8_t *q = companion.start + place(&companion, still.companion_length, asked.far);
     memcpy(sides[side].table.start, fill, TABLE_ROOM);
-    memcpy(sides[side].list.start, fill, LIST_ROOM);
+    memcpy(sides[side].list.start, list_fill, LIST_ROOM);
     memcpy(sides[side].out.start, fill, OUT_ROOM);
+    if (has_buffer()) /* large, so only where one is lent */
+        memcpy(sides[side].buffer.start, fill, BUFFER_ROOM);
     running = side;
     if (side == 0)
-        call_still(&asked, p, table_of(0), list_of(0), out_of(0));
+        call_still(&asked, p, q, table_of(0), list_of(0), buffer_of(0), out_of(0));
     else
-        call_second(&asked, p, table_of(1), list_of(1), out_of(1));
+        call_second(&asked, p, q, table_of(1), list_of(1), buffer_of(1), out_of(1));
     running = -1;
 }
 
@@ -190,7 +255,38 @@ static int is_known(uint64_t number)
 /* Refusals after which the table is empty. */
 static int empties(uint64_t number)
 {
-    return number >= 2 && number <= 20;
+    return (number >= 2 && number <= 20) || (number >= 29 && number <= 32) || number == 37;
+}
+
+/* How many bytes of the list an answer may have written. */
+static size_t list_written(const uint64_t *out)
+{
+    if (out[0] != 0)
+        return 0;
+    switch (asked.question) {
+    case SOURCES:
+    case SOUND_SOURCES: return 4 * (size_t)out[2];
+    case POINTS: return 4 * asked.list_len;
+    case REPORT: return 12 * (size_t)out[2];
+    default: return 0;
+    }
+}
+
+/* All of the buffer but the bytes that an answer says it wrote. */
+static int buffer_stands(const uint8_t *fill, size_t written)
+{
+    const struct arena *buffer = &sides[0].buffer;
+    return written <= asked.buffer_len &&
+           unchanged_around(buffer, fill, place(buffer, asked.buffer_len, asked.far), written);
+}
+
+/* x and y of a point are read, not written. */
+static int points_stand(size_t list_at)
+{
+    for (size_t at = 0; asked.question == POINTS && at < 4 * asked.list_len; at += 4 * POINT_WORDS)
+        if (memcmp(list_fill + list_at + at, sides[0].list.start + list_at + at, 8) != 0)
+            return 0;
+    return 1;
 }
 
 /* The rules on writing, held against the proved library by themselves. */
@@ -200,7 +296,7 @@ static const char *broken_rule(const uint8_t *fill)
     const uint64_t *out = out_of(0);
     uint64_t number = out[0];
     size_t table_at = place(&s->table, 4 * asked.table_len, asked.far);
-    size_t written = asked.question == SOURCES && number == 0 ? 4 * (size_t)out[2] : 0;
+    size_t list_at = place(&s->list, 4 * asked.list_len, asked.far), written = list_written(out);
     int reads = asked.question != TRANSFORMS; /* a file, and so has a table */
     if (!is_known(number))
         return "no such refusal";
@@ -212,8 +308,14 @@ static const char *broken_rule(const uint8_t *fill)
         return "table written where it must not be";
     if (empties(number) && !is_zero(table_of(0), WORDS))
         return "table not empty";
-    if (written > 4 * asked.list_len || !unchanged_around(&s->list, fill, place(&s->list, 4 * asked.list_len, asked.far), written))
+    if (written > 4 * asked.list_len || !unchanged_around(&s->list, list_fill, list_at, written) || !points_stand(list_at))
         return "list written where it must not be";
+    if (has_buffer() && !buffer_stands(fill, number == 0 ? (size_t)out[2] : 0))
+        return "buffer written where it must not be";
+    if ((number == 31) != (asked.question == BODY_OF && number != 1 && asked.buffer_len < BODY))
+        return "refusal 31";
+    if ((number == 37) != (asked.question == REWRITE && number != 1 && asked.buffer_len < still.length))
+        return "refusal 37";
     if (!unchanged_around(&s->out, fill, place(&s->out, 64, asked.far), 64))
         return "written beside out";
     for (int k = 2; number != 0 && k < 8; k++)
@@ -230,6 +332,8 @@ static const char *first_difference(void)
         return "out";
     if (memcmp(sides[0].list.start, sides[1].list.start, LIST_ROOM) != 0)
         return "list";
+    if (has_buffer() && memcmp(sides[0].buffer.start, sides[1].buffer.start, BUFFER_ROOM) != 0)
+        return "buffer";
     if (memcmp(a, b, TABLE_ROOM) == 0)
         return NULL;
     size_t k = 0;
@@ -249,14 +353,23 @@ static void dump_file(void)
         return;
     fwrite(still.head, 1, still.length, file);
     fclose(file);
+    char path[1024];
+    snprintf(path, sizeof path, "%s.companion", dump_path);
+    file = still.companion_length != 0 ? fopen(path, "wb") : NULL;
+    if (file == NULL)
+        return;
+    fwrite(still.companion, 1, still.companion_length, file);
+    fclose(file);
 }
 
 static void report(const char *what)
 {
     static const char *const name[] = {"proved", "second"};
-    printf("DIFFERENCE in file %lu: %s\n  %s item %u x %u y %u, table %zu words, list %zu, %s, head %zu, total %llu\n", files,
-           what, question_name[asked.question], (unsigned)asked.item, (unsigned)asked.x, (unsigned)asked.y,
-           asked.table_len, asked.list_len, asked.far ? "far" : "near", still.length, (unsigned long long)still.total);
+    printf("DIFFERENCE in file %lu: %s\n  %s item %u x %u y %u, table %zu words, list %zu, buffer %zu, %s, head %zu, total %llu",
+           files, what, question_name[asked.question], (unsigned)asked.item, (unsigned)asked.x, (unsigned)asked.y,
+           asked.table_len, asked.list_len, asked.buffer_len, asked.far ? "far" : "near", still.length,
+           (unsigned long long)still.total);
+    printf(", companion %zu, its total %llu\n", still.companion_length, (unsigned long long)still.companion_total);
     for (int side = 0; side < 2; side++) {
         printf("  %s:", name[side]);
         for (int k = 0; k < 8; k++)
@@ -292,13 +405,35 @@ static void catch_crashes(void)
 
 /* ---- Questions ---- */
 
+static uint32_t some_place(struct dice *d, uint32_t side)
+{
+    switch (below(d, 10)) {
+    case 0: return 0;
+    case 1: return side - 1;
+    case 2: return chance(d, 30) ? side : below(d, side);
+    case 3: return chance(d, 30) ? (uint32_t)roll(d) : below(d, side);
+    default: return below(d, side);
+    }
+}
+
+static void lend_list(struct dice *d, const uint8_t *fill)
+{
+    memcpy(list_fill, fill, LIST_ROOM);
+    uint8_t *p = list_fill + place(&sides[0].list, 4 * asked.list_len, asked.far);
+    for (size_t k = 0; asked.question == POINTS && k < asked.list_len; k += POINT_WORDS, p += 4 * POINT_WORDS) {
+        const uint32_t point[2] = {some_place(d, asked.x), some_place(d, asked.y)};
+        memcpy(p, point, sizeof point);
+    }
+}
+
 static uint64_t ask(struct dice *d, struct call call)
 {
     static const size_t lengths[] = {WORDS, WORDS, WORDS + 1, WORDS + 20, WORDS, WORDS + 1, WORDS + 20, 0, 1, WORDS - 1};
-    const uint8_t *fill = pool + 4 * below(d, (POOL - TABLE_ROOM) / 4);
+    const uint8_t *fill = pool + 4 * below(d, (POOL - BUFFER_ROOM) / 4);
     if (call.table_len == 0)
         call.table_len = lengths[below(d, chance(d, 15) ? 10 : 7)];
     asked = call;
+    lend_list(d, fill);
     run_side(0, fill);
     run_side(1, fill);
     calls++;
@@ -325,21 +460,10 @@ static uint32_t some_item(struct dice *d, const uint32_t *table)
     }
 }
 
-static uint32_t some_place(struct dice *d, uint32_t side)
-{
-    switch (below(d, 10)) {
-    case 0: return 0;
-    case 1: return side - 1;
-    case 2: return chance(d, 30) ? side : below(d, side);
-    case 3: return chance(d, 30) ? (uint32_t)roll(d) : below(d, side);
-    default: return below(d, side);
-    }
-}
-
 static void ask_traces(struct dice *d, struct call call, uint32_t width, uint32_t height)
 {
-    call.question = TRACE;
     for (uint32_t k = 1 + below(d, 4); k > 0; k--) {
+        call.question = LEVEL >= 9 && chance(d, 50) ? MATRIX_TRACE : TRACE;
         call.x = some_place(d, width);
         call.y = some_place(d, height);
         ask(d, call);
@@ -381,6 +505,40 @@ static void ask_orientation(struct dice *d, struct call call)
     ask(d, call);
 }
 
+static void ask_points(struct dice *d, struct call call, uint32_t width, uint32_t height)
+{
+    const size_t counts[] = {0, 1, 2 + below(d, 5), below(d, 40), 511 + below(d, 4)};
+    call.question = POINTS;
+    call.x = width;
+    call.y = height;
+    call.list_len = POINT_WORDS * counts[below(d, chance(d, 20) ? 5 : 4)];
+    ask(d, call);
+}
+
+/* How often a buffer may be too short, in percent: more often where the next number in the order would follow. */
+static uint32_t short_often(void)
+{
+    return still.length > 65536 || still.total < still.length ? 70 : 15;
+}
+
+static void ask_body(struct dice *d, struct call call)
+{
+    const size_t lengths[] = {BODY, BODY, BODY + 1, BODY + below(d, 5000), BODY - 1, below(d, BODY)};
+    call.question = BODY_OF;
+    call.buffer_len = lengths[below(d, chance(d, short_often()) ? 6 : 4)];
+    ask(d, call);
+}
+
+static void ask_rewrite(struct dice *d, struct call call)
+{
+    const size_t n = still.length, lengths[] = {n, n, n + 1, n + below(d, 300), n - (n != 0), below(d, (uint32_t)n + 1)};
+    call.question = REWRITE;
+    call.buffer_len = lengths[below(d, chance(d, short_often()) ? 6 : 4)];
+    if (call.buffer_len > BUFFER_ROOM)
+        call.buffer_len = BUFFER_ROOM;
+    ask(d, call);
+}
+
 /* What the questions are asked about comes from the second reading's table. */
 static void ask_about_item(struct dice *d, int far)
 {
@@ -406,6 +564,47 @@ static void ask_about_item(struct dice *d, int far)
         ask_properties(d, next, count);
         if (LEVEL >= 3)
             ask_orientation(d, next);
+        if (LEVEL >= 4)
+            ask_points(d, next, width, height);
+        if (LEVEL >= 7)
+            ask_body(d, next);
+        next.question = MATRIX;
+        if (LEVEL >= 9)
+            ask(d, next);
+        next.question = BYTES;
+        if (LEVEL >= 10)
+            ask(d, next);
+    }
+}
+
+/* Q-12's mode has a table of its own, also for a file that the verdict refuses. */
+static void ask_sound(struct dice *d, int far)
+{
+    static uint32_t table[WORDS];
+    struct call call = {.question = REPORT, .table_len = WORDS, .list_len = 768 + below(d, 4), .far = far};
+    ask(d, call);
+    memcpy(table, table_of(1), sizeof table);
+    const size_t exact = 3 * table[0], lengths[] = {exact, exact + 1, exact - (exact != 0), exact + below(d, 30), 0};
+    call.table_len = 0;
+    call.list_len = lengths[below(d, 5)];
+    ask(d, call);
+    for (uint32_t k = table[0] == 0 ? 1 : 2 + below(d, 3); k > 0; k--) {
+        call.item = some_item(d, table);
+        uint32_t width = 1 + below(d, 9), height = 1 + below(d, 9);
+        for (uint32_t row = 0; row < table[0]; row++)
+            if (table[16 + 16 * row] == call.item && table[16 + 16 * row + 12] != 0) {
+                width = table[16 + 16 * row + 12];
+                height = table[16 + 16 * row + 13];
+            }
+        call.question = SOUND_SIZE;
+        ask(d, call);
+        call.question = SOUND_TRACE;
+        call.x = some_place(d, width);
+        call.y = some_place(d, height);
+        ask(d, call);
+        call.question = SOUND_SOURCES;
+        call.list_len = chance(d, 50) ? 256 : below(d, 6);
+        ask(d, call);
     }
 }
 
@@ -413,18 +612,24 @@ static void ask_file(struct dice *d)
 {
     int far = chance(d, 60);
     memcpy(head_writer + place(&head, still.length, far), still.head, still.length);
+    memcpy(companion_writer + place(&companion, still.companion_length, far), still.companion, still.companion_length);
     struct call call = {.question = VERDICT, .far = far};
     ask(d, call);
+    if (LEVEL >= 11)
+        ask_rewrite(d, call);
     ask_about_item(d, far);
+    if (LEVEL >= 12)
+        ask_sound(d, far);
     files++;
 }
 
 static void ask_seeds(struct dice *d, const struct seeds *seeds)
 {
-    for (size_t k = 0; k < seeds->count; k++) {
+    for (size_t k = 0; k < seeds->count && differences < ENOUGH; k++) {
         memcpy(still.head, seeds->file[k].bytes, seeds->file[k].length);
         still.length = seeds->file[k].length;
         still.total = seeds->file[k].total;
+        lend_companion(&still, &seeds->file[k]);
         ask_file(d);
         ask_file(d);
     }
@@ -453,12 +658,14 @@ int main(int argc, char **argv)
     for (size_t k = 0; k < POOL; k++)
         pool[k] = (uint8_t)roll(&dice);
     for (int side = 0; side < 2; side++)
-        sides[side] = (struct side){make_arena(TABLE_ROOM), make_arena(LIST_ROOM), make_arena(OUT_ROOM)};
-    make_head();
+        sides[side] = (struct side){make_arena(TABLE_ROOM), make_arena(LIST_ROOM), make_arena(BUFFER_ROOM),
+                                    make_arena(OUT_ROOM)};
+    make_lent(&head, &head_writer);
+    make_lent(&companion, &companion_writer);
     catch_crashes();
     clock_gettime(CLOCK_MONOTONIC, &before);
     ask_seeds(&dice, &seeds);
-    while (calls < wanted && differences < 20) {
+    while (calls < wanted && differences < ENOUGH) {
         generate(&dice, &seeds, &still);
         ask_file(&dice);
     }

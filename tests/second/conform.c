@@ -8,11 +8,15 @@
 #include "level.h"
 #include "second.h"
 
-enum { WORDS = 11280, PAST = 20, LIST = 300, LINE = 1 << 16 };
+enum { WORDS = 11280, PAST = 20, LIST = 5000, ARGUMENTS = 1100, BUFFER = 1 << 17, LINE = 1 << 16 };
 
 static uint8_t head[1 << 17];
 static size_t head_len;
-static uint32_t table[WORDS + PAST], list[LIST];
+static uint8_t companion[1 << 17];
+static size_t companion_len;
+static uint64_t companion_total;
+static uint32_t table[WORDS + PAST], before[WORDS + PAST], list[LIST]; /* before: what the table held */
+static uint8_t buffer[BUFFER]; /* for bodies and for what is written anew */
 static uint64_t out[8];
 static unsigned long lines, wrong;
 
@@ -78,14 +82,12 @@ static void hash_block(uint32_t h[8], const uint8_t *p)
         h[i] += v[i];
 }
 
-static void hash_table(char *text)
+/* `bytes` needs room for 72 more. */
+static void hash_bytes(uint8_t *bytes, size_t n, char *text)
 {
-    static uint8_t bytes[WORDS * 4 + 128];
-    size_t n = WORDS * 4, blocks = (n + 9 + 63) / 64;
+    size_t blocks = (n + 9 + 63) / 64;
     uint32_t h[8];
-    memset(bytes, 0, sizeof bytes);
-    for (size_t i = 0; i < n; i++)
-        bytes[i] = (uint8_t)(table[i / 4] >> 8 * (i % 4));
+    memset(bytes + n, 0, blocks * 64 - n);
     bytes[n] = 0x80;
     for (int i = 0; i < 8; i++)
         bytes[blocks * 64 - 1 - (size_t)i] = (uint8_t)((uint64_t)n * 8 >> 8 * i);
@@ -94,6 +96,14 @@ static void hash_table(char *text)
         hash_block(h, bytes + 64 * i);
     for (int i = 0; i < 8; i++)
         sprintf(text + 8 * i, "%08x", (unsigned)h[i]);
+}
+
+static void hash_table(char *text)
+{
+    static uint8_t bytes[WORDS * 4 + 128];
+    for (size_t i = 0; i < WORDS * 4; i++)
+        bytes[i] = (uint8_t)(table[i / 4] >> 8 * (i % 4));
+    hash_bytes(bytes, WORDS * 4, text);
 }
 
 /* ---- Questions ---- */
@@ -112,12 +122,17 @@ static void dirty(void)
 {
     for (size_t i = 0; i < WORDS + PAST; i++)
         table[i] = i < WORDS ? random_word() : 0x5a5a5a5a;
+    memcpy(before, table, sizeof before);
     for (size_t i = 0; i < LIST; i++)
         list[i] = 0xa5a5a5a5;
+    memset(buffer, 0x3c, sizeof buffer);
 }
 
-static int past_is_clean(size_t written)
+static int past_is_clean(size_t written, size_t bytes)
 {
+    for (size_t i = bytes; i < BUFFER; i++)
+        if (buffer[i] != 0x3c)
+            return 0;
     for (size_t i = WORDS; i < WORDS + PAST; i++)
         if (table[i] != 0x5a5a5a5a)
             return 0;
@@ -127,63 +142,236 @@ static int past_is_clean(size_t written)
     return 1;
 }
 
+static int is(const char *question, const char *name)
+{
+    return strcmp(question, name) == 0;
+}
+
+static char *spell_numbers(char *text, const uint64_t *value, int count)
+{
+    for (int k = 0; k < count; k++)
+        text += sprintf(text, k ? " %llu" : "%llu", (unsigned long long)value[k]);
+    return text;
+}
+
+static void spell_signed(char *text, const uint64_t *value, int count)
+{
+    for (int k = 0; k < count; k++)
+        text += sprintf(text, k ? " %lld" : "%lld", (long long)value[k]);
+}
+
+static char *spell_words(char *text, const uint32_t *word, uint64_t count)
+{
+    text[0] = 0;
+    for (uint64_t k = 0; k < count; k++)
+        text += sprintf(text, k ? " %u" : "%u", (unsigned)word[k]);
+    return text;
+}
+
+/* Kind, item, x, y, items passed; or the refusal before them. */
+static char *spell_trace(char *text, const uint64_t *answer)
+{
+    if (answer[0] != 0)
+        return text + sprintf(text, "refused %llu %llu", (unsigned long long)answer[0], (unsigned long long)answer[1]);
+    text += sprintf(text, "%s ", answer[2] == 1 ? "pixel" : "fill");
+    return spell_numbers(text, answer + 3, 4);
+}
+
 /* How many, then each by its name and value. */
 static void spell_transforms(char *text)
 {
-    text += sprintf(text, "%llu", (unsigned long long)out[2]);
+    text = spell_numbers(text, out + 2, 1);
     for (uint64_t k = 0; k < out[2]; k++)
         text += sprintf(text, " %s %llu", out[3 + 2 * k] == 1 ? "irot" : "imir", (unsigned long long)out[4 + 2 * k]);
 }
 
-static void spell(char *text, const char *question)
+static void spell_points(char *text)
 {
-    int values = !strcmp(question, "size") || !strcmp(question, "trace") ? 5 : !strcmp(question, "orientation") ? 1 : 2;
-    if (out[0] != 0) {
-        sprintf(text, "refused %llu %llu", (unsigned long long)out[0], (unsigned long long)out[1]);
-        return;
-    }
-    if (!strcmp(question, "transforms")) {
-        spell_transforms(text);
-        return;
-    }
-    if (!strcmp(question, "sources")) {
-        text[0] = 0;
-        for (uint64_t i = 0; i < out[2]; i++)
-            text += sprintf(text, i ? " %u" : "%u", (unsigned)list[i]);
-        return;
-    }
-    for (int i = 0; i < values; i++) {
-        if (i == 0 && !strcmp(question, "trace"))
-            text += sprintf(text, "%s", out[2] == 1 ? "pixel" : "fill");
-        else
-            text += sprintf(text, i ? " %llu" : "%llu", (unsigned long long)out[2 + i]);
+    text = spell_numbers(text, out + 2, 1);
+    for (uint64_t k = 0; k < out[2]; k++) {
+        uint64_t answer[7];
+        for (int n = 0; n < 7; n++)
+            answer[n] = list[9 * k + 2 + (uint64_t)n];
+        text += sprintf(text, ", ");
+        text = spell_trace(text, answer);
     }
 }
 
-static int ask(uint64_t total, const char *question, const char *arguments, char *text)
+static void spell_body(char *text)
 {
-    unsigned a[3] = {0, 0, 0};
-    sscanf(arguments, "%u %u %u", &a[0], &a[1], &a[2]);
-    dirty();
-    if (!strcmp(question, "verdict") || !strcmp(question, "table"))
-        second_verdict(head, head_len, total, table, WORDS + PAST, out);
-    else if (!strcmp(question, "size"))
-        second_size(head, head_len, total, table, WORDS + PAST, a[0], out);
-    else if (!strcmp(question, "trace"))
-        second_trace(head, head_len, total, table, WORDS + PAST, a[0], a[1], a[2], out);
-    else if (!strcmp(question, "sources"))
-        second_sources(head, head_len, total, table, WORDS + PAST, a[0], list, a[1], out);
-    else if (!strcmp(question, "orientation"))
-        second_orientation(head, head_len, total, table, WORDS + PAST, a[0], out);
-    else if (!strcmp(question, "transforms"))
-        second_transforms(a[0], out);
+    text = spell_numbers(text, out + 2, 1);
+    for (uint64_t k = 0; k < out[2]; k++)
+        text += sprintf(text, k ? "%02x" : " %02x", buffer[k]);
+}
+
+static void spell_rewriting(char *text)
+{
+    static uint8_t bytes[BUFFER + 128];
+    text = spell_numbers(text, out + 2, 2);
+    memcpy(bytes, buffer, out[2]);
+    *text++ = ' ';
+    hash_bytes(bytes, out[2], text);
+}
+
+static void spell_report(char *text)
+{
+    static const char *const state[] = {"sound", "faulty", "resting"};
+    text = spell_numbers(text, out + 2, 1);
+    for (uint64_t k = 0; k < out[2]; k++)
+        text += sprintf(text, ", %u %s %u", (unsigned)list[3 * k], state[list[3 * k + 1] % 3], (unsigned)list[3 * k + 2]);
+}
+
+static void spell(char *text, const char *question)
+{
+    if (out[0] != 0)
+        sprintf(text, "refused %llu %llu", (unsigned long long)out[0], (unsigned long long)out[1]);
+    else if (is(question, "size") || is(question, "sound-size"))
+        spell_numbers(text, out + 2, 5);
+    else if (is(question, "trace") || is(question, "matrix-trace") || is(question, "sound-trace"))
+        spell_trace(text, out);
+    else if (is(question, "matrix"))
+        spell_signed(text, out + 2, 6);
+    else if (is(question, "report"))
+        spell_report(text);
+    else if (is(question, "sources") || is(question, "sound-sources"))
+        spell_words(text, list, out[2]);
+    else if (is(question, "orientation"))
+        spell_numbers(text, out + 2, 1);
+    else if (is(question, "transforms"))
+        spell_transforms(text);
+    else if (is(question, "points"))
+        spell_points(text);
+    else if (is(question, "body"))
+        spell_body(text);
+    else if (is(question, "rewrite"))
+        spell_rewriting(text);
+    else if (is(question, "bytes"))
+        spell_numbers(text + sprintf(text, out[2] == 1 ? "head " : "companion "), out + 3, 2);
     else
-        second_property(head, head_len, total, table, WORDS + PAST, a[0], a[1], out);
-    if (!strcmp(question, "table"))
-        hash_table(text);
+        spell_numbers(text, out + 2, 2);
+}
+
+/* All numbers of the arguments; the first is the item where one is asked. */
+static uint32_t argument[ARGUMENTS];
+static size_t arguments;
+
+static void read_arguments(const char *text)
+{
+    char *end;
+    argument[0] = argument[1] = argument[2] = 0;
+    for (arguments = 0; arguments < ARGUMENTS && *text != 0; arguments++, text = end)
+        argument[arguments] = (uint32_t)strtoul(text, &end, 10);
+}
+
+static size_t lend_points(void)
+{
+    size_t count = (arguments - 1) / 2;
+    for (size_t k = 0; k < count; k++) {
+        list[9 * k] = argument[1 + 2 * k];
+        list[9 * k + 1] = argument[2 + 2 * k];
+    }
+    return count;
+}
+
+/* Before Q-10 no companion is lent. */
+#if LEVEL >= 10
+#define LENT_TO(table) head, head_len, total, companion, companion_len, companion_total, table, words
+#else
+#define LENT_TO(table) head, head_len, total, table, words
+#endif
+#define LENT LENT_TO(table)
+
+static void put_question(uint64_t total, const char *question)
+{
+    const uint32_t *a = argument;
+    const size_t words = WORDS + PAST;
+    if (is(question, "verdict") || is(question, "table"))
+        second_verdict(LENT, out);
+    else if (is(question, "size"))
+        second_size(LENT, a[0], out);
+    else if (is(question, "trace"))
+        second_trace(LENT, a[0], a[1], a[2], out);
+    else if (is(question, "sources"))
+        second_sources(LENT, a[0], list, a[1], out);
+    else if (is(question, "prop"))
+        second_property(LENT, a[0], a[1], out);
+    else if (is(question, "orientation"))
+        second_orientation(LENT, a[0], out);
+    else if (is(question, "transforms"))
+        second_transforms(a[0], out);
+    else if (is(question, "points"))
+        second_points(LENT, a[0], list, lend_points(), out);
+    else if (is(question, "body"))
+        second_body(LENT, a[0], buffer, a[1], out);
+    else if (is(question, "matrix"))
+        second_matrix(LENT, a[0], out);
+    else if (is(question, "matrix-trace"))
+        second_trace_by_matrix(LENT, a[0], a[1], a[2], out);
+    else if (is(question, "bytes"))
+        second_bytes(LENT, a[0], out);
+    else if (is(question, "rewrite"))
+        second_rewrite(LENT, buffer, a[0], out);
+    else if (is(question, "report"))
+        second_report(LENT, list, a[0], out);
+    else if (is(question, "report-table"))
+        second_report(LENT, list, LIST, out);
+    else if (is(question, "sound-size"))
+        second_sound_size(LENT, a[0], out);
+    else if (is(question, "sound-trace"))
+        second_sound_trace(LENT, a[0], a[1], a[2], out);
+    else if (is(question, "sound-sources"))
+        second_sound_sources(LENT, a[0], list, a[1], out);
+    else
+        fprintf(stderr, "no such question: %s\n", question), exit(2);
+}
+
+/* How many words of the list an answer may have changed. */
+static size_t list_words(const char *question)
+{
+    if (is(question, "points"))
+        return 9 * (arguments - 1) / 2;
+    if (out[0] != 0)
+        return 0;
+    if (is(question, "report") || is(question, "report-table"))
+        return 3 * out[2];
+    return is(question, "sources") || is(question, "sound-sources") ? out[2] : 0;
+}
+
+static int is_report(const char *question)
+{
+    return is(question, "report") || is(question, "report-table") || strncmp(question, "sound-", 6) == 0;
+}
+
+/* After 1 and 27 the table is as before, after what is judged up to 20 it is empty, and else it is the file's: that of
+ * the verdict or, in Q-12's mode, of the report. */
+static int table_stands(uint64_t total, const char *question)
+{
+    static uint32_t other[WORDS], room[3 * 256];
+    uint64_t ignored[8], n = out[0];
+    const size_t words = WORDS;
+    if (n == 1 || is(question, "transforms"))
+        return memcmp(table, before, sizeof table) == 0;
+    memset(other, 0, sizeof other);
+    if ((n < 2 || n > 20) && (n < 29 || n > 32) && n != 37) {
+        if (is_report(question))
+            second_report(LENT_TO(other), room, 3 * 256, ignored);
+        else
+            second_verdict(LENT_TO(other), ignored);
+    }
+    return memcmp(table, other, sizeof other) == 0;
+}
+
+static int ask(uint64_t total, const char *question, const char *text_of_arguments, char *text)
+{
+    read_arguments(text_of_arguments);
+    dirty();
+    put_question(total, question);
+    if (is(question, "table") || is(question, "report-table"))
+        hash_table(text); /* also of a refused file */
     else
         spell(text, question);
-    return past_is_clean(!strcmp(question, "sources") && out[0] == 0 ? out[2] : 0);
+    int writes = is(question, "body") || is(question, "rewrite");
+    return past_is_clean(list_words(question), writes && out[0] == 0 ? out[2] : 0) && table_stands(total, question);
 }
 
 static int read_whole(const char *path, uint8_t *bytes, size_t room, size_t *length)
@@ -196,10 +384,35 @@ static int read_whole(const char *path, uint8_t *bytes, size_t room, size_t *len
     return 1;
 }
 
+/* The companion's total stands in a list; a file that is not in it has none. */
+static int load_companion(const char *folder, const char *name)
+{
+    char path[1024], line[1024];
+    companion_len = 0;
+    companion_total = 0;
+    snprintf(path, sizeof path, "%s/later/companions.tsv", folder);
+    FILE *totals = fopen(path, "r");
+    if (!totals)
+        return 0;
+    while (fgets(line, sizeof line, totals)) {
+        char *tab = strchr(line, '\t');
+        if (!tab || (size_t)(tab - line) != strlen(name) || strncmp(line, name, strlen(name)))
+            continue;
+        companion_total = strtoull(strchr(tab + 1, '\t') + 1, NULL, 10);
+        snprintf(path, sizeof path, "%s/later/companions/%s.bin", folder, name);
+        if (strtoull(tab + 1, NULL, 10) != 0 && !read_whole(path, companion, sizeof companion, &companion_len))
+            return fclose(totals), 0; /* where nothing is lent there may be no file */
+    }
+    fclose(totals);
+    return 1;
+}
+
 /* A name without a file among the later ones is one of document 01's. */
 static int load(const char *folder, const char *name)
 {
     char path[1024];
+    if (LEVEL >= 10 && !load_companion(folder, name))
+        return 0;
     snprintf(path, sizeof path, "%s/later/heads/%s.bin", folder, name);
     if (read_whole(path, head, sizeof head, &head_len))
         return 1;

@@ -173,6 +173,23 @@ static void map_iref(struct map *m, const struct box *iref)
     }
 }
 
+static void map_dinf(struct map *m, const struct box *dinf)
+{
+    size_t at = dinf->content, inner, field;
+    struct box box, entry;
+    while (map_box(m, &at, dinf->end, &box)) {
+        if (box.type != TYPE('d', 'r', 'e', 'f'))
+            continue;
+        inner = box.content;
+        map_version(m, &inner, box.end);
+        note(m, &inner, box.end, 4, COUNT);
+        while (map_box(m, &inner, box.end, &entry)) {
+            field = entry.content;
+            map_version(m, &field, entry.end);
+        }
+    }
+}
+
 static void map_child(struct map *m, const struct box *box)
 {
     size_t at = box->content;
@@ -187,6 +204,7 @@ static void map_child(struct map *m, const struct box *box)
     case TYPE('i', 'l', 'o', 'c'): map_iloc(m, box); break;
     case TYPE('i', 'p', 'r', 'p'): map_iprp(m, box); break;
     case TYPE('i', 'r', 'e', 'f'): map_iref(m, box); break;
+    case TYPE('d', 'i', 'n', 'f'): map_dinf(m, box); break;
     case TYPE('i', 'd', 'a', 't'):
         while (at < box->end)
             note(m, &at, box->end, box->end - at >= 2 ? 2 : 1, VALUE);
@@ -336,7 +354,7 @@ static uint64_t other_type(struct dice *d)
         TYPE('f', 'r', 'e', 'e'), TYPE('d', 'i', 'm', 'g'), TYPE('t', 'h', 'm', 'b'), TYPE('i', 's', 'p', 'e'),
         TYPE('i', 'r', 'o', 't'), TYPE('i', 'm', 'i', 'r'), TYPE('c', 'l', 'a', 'p'), TYPE('h', 'v', 'c', '1'),
         TYPE('j', 'p', 'e', 'g'), TYPE('i', 'd', 'e', 'n'), TYPE('g', 'r', 'i', 'd'), TYPE('i', 'o', 'v', 'l'),
-        TYPE('E', 'x', 'i', 'f'), TYPE('p', 'i', 'x', 'i')};
+        TYPE('E', 'x', 'i', 'f'), TYPE('p', 'i', 'x', 'i'), TYPE('d', 'i', 'n', 'f'), TYPE('d', 'r', 'e', 'f')};
     return types[below(d, sizeof types / sizeof types[0])];
 }
 

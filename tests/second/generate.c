@@ -1,14 +1,15 @@
-/* Makes HEIF stills by document 01. A plan holds items, properties and derivations, with sizes worked out bottom up;
- * planned faults spoil the plan; the emitter writes it in a random form that the document allows. Damage to bytes is
- * in damage.c. */
+/* Makes HEIF stills by document 01, and by document 02 up to Q-LEVEL. A plan holds items, properties and derivations,
+ * with sizes worked out bottom up; planned faults spoil the plan; the emitter writes it in a random form that the
+ * documents allow. Damage to bytes is in damage.c. */
 #include "generate.h"
+#include "level.h"
 
 #include <dirent.h>
 #include <stdio.h>
 #include <stdlib.h>
 #include <string.h>
 
-enum { ITEMS = 260, PROPERTIES = 260, CONTENT = 48, POOL = 2400, BLOB = 24000, EXTENTS = 4 };
+enum { ITEMS = 260, PROPERTIES = 260, CONTENT = 48, POOL = 2400, BLOB = 24000, EXTENTS = 4, LINKS = 8, CHAIN = 8 };
 
 enum kind { OPAQUE, CODED, IDEN, GRID, IOVL };
 
@@ -45,6 +46,10 @@ static uint32_t between(struct dice *d, uint32_t low, uint32_t high)
 
 /* ---- The plan ---- */
 
+struct piece {
+    uint32_t at, length;
+};
+
 struct picture {
     enum kind kind;
     uint32_t id, type;
@@ -57,7 +62,14 @@ struct picture {
     uint32_t extents;
     int has_body, no_entry;
     int past_end, no_length, wraps, outside; /* planned faults of extents */
-    uint32_t body, body_length;              /* in the blob of its method */
+    int in_companion;                        /* written as method 0, with an entry that is not marked */
+    uint32_t blob;                           /* where its body is: 0 in `mdat`, 1 in `idat`, 2 in the companion */
+    struct piece piece[EXTENTS];             /* of the body, in that blob */
+    int covers;                              /* its extents are all of that blob */
+    uint32_t chain;                          /* links down to an item that is not of method 2 */
+    uint32_t link[LINKS], links;             /* targets of its iloc reference, as places in plan.item */
+    uint32_t index[EXTENTS];                 /* from 1: which of them an extent names */
+    int is_named, no_links, links_twice, huge; /* the last three are planned faults */
 };
 
 struct content {
@@ -75,14 +87,24 @@ struct plan {
     uint32_t associations;
     uint16_t input[POOL];
     uint32_t inputs;
-    uint8_t blob[2][BLOB]; /* by method: in `mdat`, in `idat` */
-    uint32_t blob_length[2];
+    uint8_t blob[3][BLOB]; /* in `mdat`, in `idat`, in the companion */
+    uint32_t blob_length[3];
+    uint32_t references; /* entries of dref */
+    uint8_t marked[17];  /* as the same file */
+    uint64_t companion_total;
+    int no_dinf; /* and so no entries */
+    int apart;   /* no extent of method 0 shares a byte with `meta` */
     uint32_t primary; /* the ID */
     uint32_t order[ITEMS]; /* of iinf */
     int deep;
     int loose;    /* canvases may be too large for their tiles, tiles unequal, sides 0 or 65,536: with an ispe that agrees */
     int unsorted; /* two entries of ipma exchanged */
     int cut;      /* the head ends inside a body */
+    uint32_t extents;
+    int pieced;   /* some item's extents must lie where they do */
+    int indexed;  /* iloc has extent indices; else every link is to the first target */
+    uint32_t deepest_chain;
+    uint32_t cover[3][CHAIN + 3]; /* places of the items that cover a blob, by chain; ITEMS: none yet */
 };
 
 static void put(uint8_t *p, uint32_t bytes, uint64_t value)
@@ -101,8 +123,9 @@ static uint32_t property_index(struct dice *d, struct plan *plan, const struct c
             if (plan->property[k].type == content->type && plan->property[k].length == content->length &&
                 !memcmp(plan->property[k].bytes, content->bytes, content->length))
                 return k + 1;
-    /* The last places are kept for ispe, which no image item can do without. */
-    if (plan->properties >= (content->type == TYPE('i', 's', 'p', 'e') ? 256 : 240))
+    /* The last places are kept for what an image item cannot do without. */
+    int needed = content->type == TYPE('i', 's', 'p', 'e') || content->type == TYPE('h', 'v', 'c', 'C');
+    if (plan->properties >= (needed ? 256 : 240))
         return 0;
     plan->property[plan->properties++] = *content;
     return plan->properties;
@@ -182,6 +205,19 @@ static void associate(struct plan *plan, struct picture *item, uint32_t index, i
     item->associations++;
 }
 
+/* From Q-5 on an hvc1 item must have exactly one hvcC, marked essential. */
+static int needs_hvcc(const struct picture *item)
+{
+    return LEVEL >= 5 && item->type == TYPE('h', 'v', 'c', '1');
+}
+
+static void associate_hvcc(struct dice *d, struct plan *plan, struct picture *item)
+{
+    struct content content = {TYPE('h', 'v', 'c', 'C'), {0}, below(d, 13)};
+    content.bytes[0] = (uint8_t)below(d, 3);
+    associate(plan, item, property_index(d, plan, &content), 1);
+}
+
 /* A property that does not matter: known, unknown and not essential, or index 0. */
 static void associate_noise(struct dice *d, struct plan *plan, struct picture *item)
 {
@@ -191,6 +227,8 @@ static void associate_noise(struct dice *d, struct plan *plan, struct picture *i
         return;
     }
     struct content content = random_property(d, known);
+    if (needs_hvcc(item) && content.type == TYPE('h', 'v', 'c', 'C'))
+        content.type = TYPE('p', 'a', 's', 'p');
     uint32_t index = property_index(d, plan, &content);
     associate(plan, item, index, index != 0 && (known || item->kind == OPAQUE) && chance(d, 50));
 }
@@ -199,10 +237,15 @@ static void associate_noise(struct dice *d, struct plan *plan, struct picture *i
 static void plan_properties(struct dice *d, struct plan *plan, struct picture *item, uint32_t transforms)
 {
     struct content ispe = ispe_of(item->width, item->height);
+    uint32_t hvcc = needs_hvcc(item) ? between(d, 1, 3) : 0; /* before ispe, after it, or after all transforms */
     item->first_association = plan->associations;
     while (chance(d, 20))
         associate_noise(d, plan, item);
+    if (hvcc == 1)
+        associate_hvcc(d, plan, item);
     associate(plan, item, property_index(d, plan, &ispe), chance(d, 30));
+    if (hvcc == 2)
+        associate_hvcc(d, plan, item);
     item->out_width = item->width;
     item->out_height = item->height;
     uint32_t kinds = chance(d, 50) ? 2 : 3; /* without clap, or with */
@@ -220,7 +263,11 @@ static void plan_properties(struct dice *d, struct plan *plan, struct picture *i
         }
         if (chance(d, 15))
             associate_noise(d, plan, item);
+        if (hvcc == 3 && (item->associations > 200 || plan->associations > 2000))
+            break; /* room for what must still come */
     }
+    if (hvcc == 3)
+        associate_hvcc(d, plan, item);
 }
 
 /* ---- Items ---- */
@@ -253,6 +300,115 @@ static struct picture *new_item(struct plan *plan, enum kind kind, uint32_t type
     return item;
 }
 
+/* ---- bytes in the companion ---- */
+
+static void plan_references(struct dice *d, struct plan *plan)
+{
+    if (LEVEL < 10 || chance(d, 40)) {
+        plan->no_dinf = 1;
+        return;
+    }
+    plan->references = chance(d, 90) ? between(d, 0, 4) : between(d, 5, 16);
+    for (uint32_t k = 1; k <= plan->references; k++)
+        plan->marked[k] = (uint8_t)chance(d, 40);
+    plan->companion_total = 1 + (chance(d, 80) ? below(d, 3000) : roll(d) >> between(d, 2, 40));
+}
+
+/* A data reference index whose entry is marked or not; 0 when there is none. */
+static uint32_t pick_reference(struct dice *d, const struct plan *plan, int marked)
+{
+    uint32_t first = below(d, plan->references);
+    for (uint32_t k = 0; k < plan->references; k++) {
+        uint32_t index = 1 + (first + k) % plan->references;
+        if (plan->marked[index] == marked)
+            return index;
+    }
+    return 0;
+}
+
+/* An item of method 0 may lie in the companion, or say in words that it lies in this file. */
+static void plan_file(struct dice *d, const struct plan *plan, struct picture *item)
+{
+    if (item->method == 0 && !item->no_entry && chance(d, 60)) {
+        item->reference = pick_reference(d, plan, chance(d, 30));
+        item->in_companion = item->reference != 0 && !plan->marked[item->reference];
+    }
+}
+
+/* ---- Method 2: bytes in other items ---- */
+
+/* The index by which an item names another one, from 1; 0 when its list is full. */
+static uint32_t link_to(struct plan *plan, struct picture *item, uint32_t to)
+{
+    for (uint32_t k = 0; k < item->links; k++)
+        if (item->link[k] == to)
+            return k + 1;
+    if (item->links == LINKS)
+        return 0;
+    item->link[item->links++] = to;
+    plan->item[to].is_named = 1;
+    if (item->chain <= plan->item[to].chain)
+        item->chain = plan->item[to].chain + 1;
+    return item->links;
+}
+
+/* An item with bytes that a chain may go on to. */
+static uint32_t pick_named(struct dice *d, const struct plan *plan, const struct picture *item)
+{
+    for (int tries = 0; tries < 20; tries++) {
+        uint32_t k = below(d, plan->items);
+        const struct picture *other = &plan->item[k];
+        if (other != item && other->extents != 0 && other->chain < plan->deepest_chain)
+            return k;
+    }
+    return ITEMS;
+}
+
+/* Makes an item's bytes those of items that were planned before it. */
+static void plan_links(struct dice *d, struct plan *plan, struct picture *item)
+{
+    uint32_t first = pick_named(d, plan, item);
+    if (LEVEL < 7 || first == ITEMS || !chance(d, 25))
+        return;
+    item->method = 2;
+    if (plan->indexed && chance(d, 20)) /* a target that no extent names is no link */
+        item->link[item->links++] = below(d, plan->items);
+    for (uint32_t k = 0; k < item->extents; k++) {
+        uint32_t named = plan->indexed && chance(d, 50) ? pick_named(d, plan, item) : first;
+        item->index[k] = named == ITEMS ? 0 : link_to(plan, item, named);
+        if (item->index[k] == 0)
+            item->index[k] = link_to(plan, item, first);
+        plan->pieced |= item->index[k] != item->index[0]; /* their sources differ in length */
+    }
+}
+
+/* The place of an opaque item that covers a blob over so many links, made if it is not there yet; ITEMS: no room. */
+static uint32_t cover_of(struct dice *d, struct plan *plan, uint32_t blob, uint32_t chain)
+{
+    uint32_t *cover = &plan->cover[blob][chain];
+    uint32_t below_it = chain == 0 ? 0 : *cover == ITEMS ? cover_of(d, plan, blob, chain - 1) : *cover;
+    if (*cover != ITEMS || below_it == ITEMS)
+        return *cover;
+    if (plan->items >= 250 || plan->extents >= 480)
+        return ITEMS;
+    *cover = plan->items;
+    struct picture *item = new_item(plan, OPAQUE, TYPE('m', 'i', 'm', 'e'));
+    item->first_association = plan->associations;
+    item->method = chain == 0 ? blob % 2 : 2;
+    item->blob = blob;
+    if (chain == 0 && blob == 2) {
+        item->reference = pick_reference(d, plan, 0);
+        item->in_companion = 1;
+    }
+    item->covers = 1;
+    item->extents = chance(d, 60) ? 1 : 2;
+    plan->pieced = 1;
+    for (uint32_t k = 0; chain != 0 && k < item->extents; k++)
+        item->index[k] = link_to(plan, item, below_it);
+    plan->extents += item->extents;
+    return *cover;
+}
+
 static void plan_coded(struct dice *d, struct plan *plan)
 {
     struct picture *item =
@@ -261,6 +417,9 @@ static void plan_coded(struct dice *d, struct plan *plan)
     item->height = random_side(d, plan);
     item->extents = chance(d, 80) ? 1 : between(d, 1, EXTENTS);
     item->method = chance(d, 15);
+    plan_links(d, plan, item);
+    plan_file(d, plan, item);
+    plan->extents += item->extents;
     plan_properties(d, plan, item, few_transforms(d));
 }
 
@@ -273,6 +432,7 @@ static void plan_tile(struct dice *d, struct plan *plan, uint32_t like)
     if (plan->loose && chance(d, 40)) /* unequal by one side only */
         *(chance(d, 50) ? &item->width : &item->height) += 1;
     item->extents = 1;
+    plan->extents++;
     plan_properties(d, plan, item, 0);
 }
 
@@ -282,8 +442,12 @@ static void plan_opaque(struct dice *d, struct plan *plan)
                                      TYPE('u', 'r', 'i', ' '), 0, TYPE('H', 'V', 'C', '1')};
     struct picture *item = new_item(plan, OPAQUE, types[below(d, 6)]);
     item->extents = below(d, 3);
-    item->method = chance(d, 20);
+    item->method = LEVEL >= 7 && item->extents == 0 && chance(d, 10) ? 2 : chance(d, 20);
     item->no_entry = item->extents == 0 && chance(d, 50);
+    plan->extents += item->extents;
+    if (item->extents != 0)
+        plan_links(d, plan, item);
+    plan_file(d, plan, item);
     item->protection = chance(d, 20);
     item->first_association = plan->associations;
     while (chance(d, 40))
@@ -321,21 +485,66 @@ static void add_input(struct plan *plan, struct picture *item, uint32_t k)
         item->depth = plan->item[k].depth + 1;
 }
 
+/* Lays a body into a blob, from Q-7 on in several pieces now and then. */
+static void add_pieces(struct dice *d, struct plan *plan, struct picture *item, const uint8_t *bytes, uint32_t length)
+{
+    uint8_t *blob = plan->blob[item->blob];
+    uint32_t *at = &plan->blob_length[item->blob], done = 0;
+    for (uint32_t k = 0; k < item->extents; k++) {
+        uint32_t left = length - done, most = left - (item->extents - 1 - k);
+        uint32_t part = k + 1 == item->extents ? left : between(d, 1, most);
+        for (uint32_t gap = chance(d, 30) ? below(d, 8) : 0; gap > 0; gap--)
+            blob[(*at)++] = (uint8_t)roll(d);
+        item->piece[k] = (struct piece){*at, part};
+        memcpy(blob + *at, bytes + done, part);
+        *at += part;
+        done += part;
+    }
+}
+
 static void add_body(struct dice *d, struct plan *plan, struct picture *item, const uint8_t *bytes, uint32_t length)
 {
-    item->method = chance(d, 50);
+    uint32_t reference = pick_reference(d, plan, 0);
+    item->blob = reference != 0 && chance(d, 30) ? 2 : (uint32_t)chance(d, 50);
+    item->method = item->blob % 2;
+    item->reference = item->blob == 2 ? reference : 0;
+    item->in_companion = item->blob == 2;
     item->has_body = 1;
-    item->extents = 1;
-    uint8_t *blob = plan->blob[item->method];
-    uint32_t *at = &plan->blob_length[item->method];
-    if (*at + length + 8 > BLOB)
+    item->extents = LEVEL >= 7 && plan->extents < 450 && chance(d, 30) ? between(d, 1, EXTENTS) : 1;
+    if (plan->blob_length[item->blob] + length + 8 * EXTENTS > BLOB)
         return;
-    for (uint32_t gap = chance(d, 30) ? below(d, 8) : 0; gap > 0; gap--)
-        blob[(*at)++] = (uint8_t)roll(d);
-    item->body = *at;
-    item->body_length = length;
-    memcpy(blob + *at, bytes, length);
-    *at += length;
+    plan->pieced |= item->extents > 1;
+    plan->extents += item->extents;
+    add_pieces(d, plan, item, bytes, length);
+    uint32_t cover = ITEMS;
+    if (LEVEL >= 7 && chance(d, 40))
+        cover = cover_of(d, plan, item->blob, chance(d, 60) ? 0 : below(d, plan->deepest_chain));
+    if (cover == ITEMS)
+        return;
+    item->method = 2;
+    item->reference = 0;
+    item->in_companion = 0;
+    for (uint32_t k = 0; k < item->extents; k++)
+        item->index[k] = link_to(plan, item, cover);
+}
+
+/* A body as it was laid out, to be changed and laid back. */
+static uint32_t take_body(const struct plan *plan, const struct picture *item, uint8_t *bytes)
+{
+    uint32_t length = 0;
+    for (uint32_t k = 0; k < item->extents && k < EXTENTS; k++) {
+        memcpy(bytes + length, plan->blob[item->blob] + item->piece[k].at, item->piece[k].length);
+        length += item->piece[k].length;
+    }
+    return length;
+}
+
+static void lay_body(struct plan *plan, const struct picture *item, const uint8_t *bytes)
+{
+    for (uint32_t k = 0; k < item->extents && k < EXTENTS; k++) {
+        memcpy(plan->blob[item->blob] + item->piece[k].at, bytes, item->piece[k].length);
+        bytes += item->piece[k].length;
+    }
 }
 
 static int plan_iden(struct dice *d, struct plan *plan, uint32_t deepest)
@@ -508,6 +717,23 @@ static void fill_idat(struct dice *d, struct plan *plan)
         plan->blob[1][plan->blob_length[1]++] = (uint8_t)roll(d);
 }
 
+/* In another order, so that those which nothing names stand anywhere. */
+static void shuffle_properties(struct dice *d, struct plan *plan)
+{
+    static struct content kept[PROPERTIES];
+    uint32_t order[PROPERTIES], index[PROPERTIES + 1] = {0};
+    for (uint32_t k = 0; k < plan->properties; k++)
+        order[k] = k;
+    shuffle(d, order, plan->properties);
+    memcpy(kept, plan->property, sizeof kept);
+    for (uint32_t k = 0; k < plan->properties; k++) {
+        plan->property[k] = kept[order[k]];
+        index[order[k] + 1] = k + 1;
+    }
+    for (uint32_t k = 0; k < plan->associations; k++)
+        plan->association[k] = (uint16_t)((plan->association[k] & 32768) | index[plan->association[k] & 32767]);
+}
+
 /* Up to the limit of 2,048, all to index 0. */
 static void fill_associations(struct plan *plan)
 {
@@ -525,12 +751,19 @@ static void make_plan(struct dice *d, struct plan *plan, uint32_t deepest, int l
     memset(plan, 0, sizeof *plan);
     plan->deep = chance(d, 20) || deepest > 16;
     plan->loose = loose;
+    plan->indexed = chance(d, 60);
+    plan_references(d, plan);
+    plan->apart = chance(d, 60);
+    plan->deepest_chain = loose && chance(d, 50) ? CHAIN + 1 : CHAIN;
+    for (uint32_t k = 0; k < CHAIN + 3; k++)
+        plan->cover[0][k] = plan->cover[1][k] = plan->cover[2][k] = ITEMS;
     if (plan->deep && wanted < 40)
         wanted = between(d, 18, 40);
     plan_coded(d, plan);
     if (chance(d, 20))
         plan_opaque(d, plan);
-    while (plan->items < wanted && plan->associations < 1900 && plan->inputs < 1900 && plan->properties < 250) {
+    while (plan->items < wanted && plan->associations < 1900 && plan->inputs < 1900 && plan->properties < 250 &&
+           plan->extents < 500) {
         uint32_t which = below(d, 100);
         if (which < (plan->deep ? 3 : 10))
             plan_opaque(d, plan);
@@ -547,9 +780,13 @@ static void make_plan(struct dice *d, struct plan *plan, uint32_t deepest, int l
         struct content content = random_property(d, chance(d, 50));
         plan->property[plan->properties++] = content;
     }
+    if (chance(d, 50))
+        shuffle_properties(d, plan);
     if (chance(d, 2))
         fill_associations(plan);
     fill_idat(d, plan);
+    if (plan->companion_total < plan->blob_length[2])
+        plan->companion_total = plan->blob_length[2] + below(d, 40);
     give_ids(d, plan);
     choose_primary(d, plan);
 }
@@ -619,22 +856,43 @@ static void spoil_properties(struct dice *d, struct plan *plan)
     }
 }
 
+/* One hvcC too few or too many, or one that is not essential. */
+static void spoil_hvcc(struct dice *d, struct plan *plan)
+{
+    for (int tries = 0; tries < 40; tries++) {
+        struct picture *item = pick(d, plan, 1 << CODED);
+        uint16_t *list = plan->association + item->first_association;
+        uint32_t k = below(d, item->associations), index = list[k] & 32767u;
+        if (index == 0 || plan->property[index - 1].type != TYPE('h', 'v', 'c', 'C'))
+            continue;
+        switch (below(d, 3)) {
+        case 0: list[k] = 0; break;
+        case 1: list[k] &= 32767; break;
+        default: list[below(d, item->associations)] = list[k] & (chance(d, 50) ? 65535 : 32767); break;
+        }
+        return;
+    }
+}
+
 static void spoil_body(struct dice *d, struct plan *plan)
 {
     struct picture *item = pick(d, plan, BODIES);
     if (item == NULL)
         return;
-    uint8_t *body = plan->blob[item->method & 1] + item->body;
+    static uint8_t body[BLOB];
+    struct piece *last = &item->piece[item->extents == 0 ? 0 : item->extents - 1];
+    take_body(plan, item, body);
     switch (below(d, 8)) {
     case 0: body[0] = (uint8_t)between(d, 1, 3); break;
-    case 1: item->body_length += 1; break;
-    case 2: item->body_length -= 1; break;
+    case 1: last->length += 1; break;
+    case 2: last->length -= last->length != 0; break;
     case 3: body[1] ^= 1; break;
     case 4: item->outside = 1; item->method = 0; break;
-    case 5: item->extents = below(d, 2) * 2; break;
+    case 5: item->extents = item->extents == 2 ? 1 : below(d, 2) * 2; break;
     case 6: body[2] ^= 1; break;
-    default: item->body_length = between(d, 1, 3); break;
+    default: last->length = between(d, 1, 3); break;
     }
+    lay_body(plan, item, body);
 }
 
 static void spoil_derivation(struct dice *d, struct plan *plan)
@@ -694,9 +952,11 @@ static void spoil_sizes(struct dice *d, struct plan *plan)
     struct picture *item = pick(d, plan, BODIES);
     struct content *content = &plan->property[below(d, plan->properties)];
     if (chance(d, 40) && item != NULL) {
-        uint8_t *body = plan->blob[item->method & 1] + item->body;
+        static uint8_t body[BLOB];
+        take_body(plan, item, body);
         uint32_t field = body[1] & 1 ? 4 : 2;
         spoil_number(d, body + (item->kind == GRID ? 4 : 10) + field * below(d, 2), field);
+        lay_body(plan, item, body);
         return;
     }
     for (int tries = 0; tries < 20 && content->type != TYPE('i', 's', 'p', 'e') && content->type != TYPE('c', 'l', 'a', 'p');
@@ -708,9 +968,46 @@ static void spoil_sizes(struct dice *d, struct plan *plan)
         spoil_number(d, content->bytes + 4 * below(d, 8), 4);
 }
 
+/* Links that lead nowhere, back or too far, and lengths that sum past 64 bits. */
+static void spoil_links(struct dice *d, struct plan *plan)
+{
+    struct picture *item = pick(d, plan, ANY);
+    for (int tries = 0; tries < 20 && (item->method != 2 || item->links == 0); tries++)
+        item = pick(d, plan, ANY);
+    uint32_t k = below(d, item->links), other = below(d, plan->items);
+    switch (below(d, 8)) {
+    case 0: item->index[below(d, item->extents)] = chance(d, 50) ? 0 : item->links + 1; break;
+    case 1: item->no_links = 1; break;
+    case 2: item->links_twice = 1; break;
+    case 3: item->link[k] = (uint32_t)(item - plan->item); break;
+    case 4: item->link[k] = other; break;
+    case 5: item->reference = between(d, 1, 2); break;
+    case 6: plan->item[item->links != 0 ? item->link[k] : other].huge = 1; break;
+    default: plan->item[item->links != 0 ? item->link[k] : other].extents = 0; break;
+    }
+}
+
+/* Entries that are not there, or not for that method, or mean another file than was planned. */
+static void spoil_references(struct dice *d, struct plan *plan)
+{
+    struct picture *item = pick(d, plan, ANY);
+    switch (below(d, 5)) {
+    case 0: item->reference = plan->references + between(d, 0, 2); break;
+    case 1: item->reference = 1; break;
+    case 2: plan->marked[between(d, 1, 16)] ^= 1; break;
+    case 3: plan->no_dinf = 1; break;
+    default: plan->references = plan->references == 0 ? 17 : plan->references - 1; break;
+    }
+}
+
 static void spoil(struct dice *d, struct plan *plan)
 {
-    switch (below(d, 15)) {
+    switch (below(d, LEVEL >= 10 ? 20 : LEVEL >= 7 ? 18 : LEVEL >= 5 ? 16 : 15)) {
+    case 18:
+    case 19: spoil_references(d, plan); break;
+    case 16:
+    case 17: spoil_links(d, plan); break;
+    case 15: spoil_hvcc(d, plan); break;
     case 0: spoil_primary(d, plan); break;
     case 13: plan->unsorted = 1; break;
     case 14: plan->cut = 1; break;
@@ -729,15 +1026,22 @@ static void spoil(struct dice *d, struct plan *plan)
 
 /* ---- Writing ---- */
 
+struct stretch {
+    uint64_t start, length;
+    int to_end; /* written without a length, from Q-8 on */
+};
+
 struct writer {
     uint8_t *bytes;
     size_t at;
     struct dice *dice;
     size_t blob_at[2]; /* where `mdat` and `idat` content begins, known from the writing before */
     size_t length;     /* of the whole, likewise */
-    size_t meta_end;
+    size_t meta_start, meta_end;
     uint64_t total;
     int wide_ids; /* some ID needs 32 bits */
+    struct stretch stretch[ITEMS][EXTENTS];
+    uint64_t sum[ITEMS]; /* of an item's lengths */
 };
 
 static void write_number(struct writer *w, uint32_t bytes, uint64_t value)
@@ -788,7 +1092,10 @@ static void write_noise(struct writer *w)
 {
     static const uint32_t types[] = {TYPE('f', 'r', 'e', 'e'), TYPE('s', 'k', 'i', 'p'), TYPE('d', 'i', 'n', 'f'),
                                      TYPE('u', 'u', 'i', 'd'), TYPE('g', 'r', 'p', 'l'), 0};
-    struct open_box box = begin(w, types[below(w->dice, 6)]);
+    uint32_t type = types[below(w->dice, 6)];
+    if (LEVEL >= 10 && type == TYPE('d', 'i', 'n', 'f')) /* is read from then on */
+        type = TYPE('s', 't', 'y', 'p');
+    struct open_box box = begin(w, type);
     for (uint32_t k = chance(w->dice, 50) ? 0 : below(w->dice, 20); k > 0; k--)
         write_number(w, 1, roll(w->dice));
     end(w, box);
@@ -847,68 +1154,147 @@ struct form {
     uint32_t version, offset, length, base, index;
 };
 
-struct stretch {
-    uint64_t start, length;
-};
-
 static struct form choose_form(struct writer *w, const struct plan *plan)
 {
     struct dice own = dice_from(roll(w->dice)), *d = &own; /* so that later choices do not hang on the total */
     struct form form = {0, chance(d, 60) ? 4 : 8, chance(d, 70) ? 4 : 8, below(d, 3) * 4, 0};
-    int methods = 0, bodies = 0;
+    int methods = 0, bodies = 0, links = 0, huge = 0;
     for (uint32_t k = 0; k < plan->items; k++) {
         methods |= plan->item[k].method != 0;
         bodies |= plan->item[k].has_body;
+        links |= plan->item[k].links != 0;
+        huge |= plan->item[k].huge;
     }
     form.version = w->wide_ids ? 2 : methods ? between(d, 1, 2) : below(d, 3);
     if (form.version != 0)
-        form.index = below(d, 3) * 4;
-    if (w->total > 0xffffffffu)
+        form.index = links && plan->indexed ? between(d, 1, 2) * 4 : links ? 0 : below(d, 3) * 4;
+    if (LEVEL >= 8 && !bodies && !plan->pieced && (w->total | plan->companion_total) >> 50 == 0 && chance(d, 10))
+        form.length = 0;
+    if (huge)
+        form.length = 8;
+    if (w->total > 0xffffffffu || plan->companion_total > 0xffffffffu)
         form.offset = form.length = 8;
-    else if (chance(d, 15) && (form.base != 0 || !bodies))
+    else if (chance(d, 15) && (form.base != 0 || !bodies) && !plan->pieced)
         form.offset = 0;
     return form;
 }
 
-static void choose_stretch(struct writer *w, struct dice *d, const struct picture *item, const struct form *form,
-                           uint64_t source, struct stretch *s)
+/* Anywhere in a source of this length. */
+static struct stretch random_stretch(struct dice *d, const struct form *form, uint64_t source)
 {
+    struct stretch s = {0, 0, 0};
     uint64_t most = form->base == 0 && form->offset == 0 ? 1 : source;
-    s->start = most == 0 ? 0 : roll(d) % most;
+    s.start = most == 0 ? 0 : roll(d) % most;
     if (chance(d, 30) && source > 100)
-        s->start = most == source ? source - 1 - below(d, 50) : 0;
-    s->length = source <= s->start ? 1 : 1 + roll(d) % (source - s->start);
-    if (chance(d, 15) && source > s->start)
-        s->length = source - s->start;
-    if (item->has_body) {
-        s->start = (item->method == 1 ? 0 : w->blob_at[0]) + item->body;
-        s->length = item->body_length;
-        if (item->outside && w->length != 0)
-            s->start = w->length - between(d, 0, item->body_length - 1);
-    }
-    if (item->past_end)
-        s->length = source - s->start + 1 + (chance(d, 50) ? 0 : below(d, 1000));
-    if (item->no_length)
-        s->length = 0;
+        s.start = most == source ? source - 1 - below(d, 50) : 0;
+    s.length = source <= s.start ? 1 : 1 + roll(d) % (source - s.start);
+    if (chance(d, 15) && source > s.start)
+        s.length = source - s.start;
+    return s;
 }
 
-static void write_location(struct writer *w, const struct plan *plan, const struct picture *item, const struct form *form)
+/* Before `meta` or behind it, now and then against it or with a byte in it. */
+static struct stretch stretch_apart(const struct writer *w, struct dice *d, const struct form *form)
 {
-    struct stretch s[EXTENTS];
+    struct stretch s = random_stretch(d, form, w->total > w->meta_end ? w->total - w->meta_end : 0);
+    uint64_t by = chance(d, 90) ? 0 : 1;
+    if (w->total > w->meta_end && (form->base != 0 || form->offset != 0)) {
+        s.start += w->meta_end;
+        if (chance(d, 15) && w->meta_end >= by)
+            s.start = w->meta_end - by;
+        return s;
+    }
+    s = random_stretch(d, form, w->meta_start == 0 ? 1 : w->meta_start);
+    if (chance(d, 15) && w->meta_start != 0)
+        s.length = w->meta_start - s.start + by;
+    return s;
+}
+
+/* All of the item's blob, cut in two if it has two extents. */
+static struct stretch cover_stretch(const struct plan *plan, const struct picture *item, uint32_t k)
+{
+    uint64_t length = plan->blob_length[item->blob], middle = item->extents == 1 ? length : length / 2;
+    return k == 0 ? (struct stretch){0, middle, 0} : (struct stretch){middle, length - middle, 0};
+}
+
+static struct stretch choose_stretch(struct writer *w, struct dice *d, const struct plan *plan,
+                                     const struct picture *item, const struct form *form, uint64_t source, uint32_t k)
+{
+    struct stretch s = random_stretch(d, form, source);
+    if (LEVEL >= 11 && plan->apart && item->method == 0 && !item->in_companion)
+        s = stretch_apart(w, d, form);
+    if (item->has_body)
+        s = (struct stretch){item->piece[k].at, item->piece[k].length, 0};
+    if (item->covers)
+        s = cover_stretch(plan, item, k);
+    if ((item->has_body || item->covers) && item->method == 0 && !item->in_companion)
+        s.start += w->blob_at[0];
+    if (item->has_body && item->outside && w->length != 0)
+        s.start = w->length - below(d, item->piece[k].length);
+    if (item->is_named && s.length > (uint64_t)1 << 60)
+        s.length = (uint64_t)1 << 60; /* so that the sum stays under 64 bits */
+    if (item->past_end)
+        s.length = source - s.start + 1 + (chance(d, 50) ? 0 : below(d, 1000));
+    if (item->no_length && LEVEL >= 8 && chance(d, 70)) /* an empty stretch; elsewhere a length of 0 is good */
+        s.start = source + (chance(d, 50) ? 0 : below(d, 3));
+    if (item->no_length)
+        s.length = 0;
+    if (item->huge)
+        s.length = ~(uint64_t)0 - (chance(d, 50) ? below(d, 40) : roll(d) >> 1);
+    return s;
+}
+
+/* The length of what an extent counts from. */
+static uint64_t source_length(const struct writer *w, const struct plan *plan, const struct picture *item, uint32_t k)
+{
+    if (item->in_companion)
+        return plan->companion_total;
+    if (item->method == 1)
+        return plan->blob_length[1];
+    if (item->method != 2 || item->index[k] == 0 || item->index[k] > item->links)
+        return w->total;
+    uint64_t sum = w->sum[item->link[item->index[k] - 1]];
+    return w->total <= 0xffffffffu && plan->companion_total <= 0xffffffffu && sum > 0xffffffffu ? 0xffffffffu : sum;
+}
+
+static void choose_stretches(struct writer *w, const struct plan *plan, const struct form *form, uint32_t place)
+{
+    const struct picture *item = &plan->item[place];
+    struct stretch *s = w->stretch[place];
     struct dice own = dice_from(roll(w->dice)), *d = &own;
-    uint64_t source = item->method == 1 ? plan->blob_length[1] : w->total, base = 0;
     uint32_t faulty = below(d, item->extents);
+    w->sum[place] = 0;
     for (uint32_t k = 0; k < item->extents; k++) {
-        choose_stretch(w, d, item, form, source, &s[k]);
+        uint64_t source = source_length(w, plan, item, k);
+        s[k] = choose_stretch(w, d, plan, item, form, source, k);
         if ((item->past_end || item->no_length) && k != faulty && s[k].start < source)
             s[k].length = 1;
         if (form->offset == 0 && k > 0)
             s[k] = s[0];
-        base = k == 0 || s[k].start < base ? s[k].start : base;
+        if (form->length == 0)
+            s[k].length = s[k].start < source ? source - s[k].start : 0;
+        s[k].to_end = LEVEL >= 8 && s[k].length == source - s[k].start && (form->length == 0 || chance(d, 50));
+        w->sum[place] += s[k].length;
     }
+}
+
+static uint64_t choose_base(const struct writer *w, struct dice *d, uint32_t place, uint32_t extents,
+                            const struct form *form)
+{
+    const struct stretch *s = w->stretch[place];
+    uint64_t base = 0;
+    for (uint32_t k = 0; k < extents; k++)
+        base = k == 0 || s[k].start < base ? s[k].start : base;
     base = form->base == 0 ? 0 : form->offset == 0 ? base : chance(d, 40) ? 0 : roll(d) % (base + 1);
-    if (form->base == 4 && base > 0xffffffffu)
-        base = 0xffffffffu;
+    return form->base == 4 && base > 0xffffffffu ? 0xffffffffu : base;
+}
+
+static void write_location(struct writer *w, const struct plan *plan, uint32_t place, const struct form *form)
+{
+    const struct picture *item = &plan->item[place];
+    const struct stretch *s = w->stretch[place];
+    struct dice own = dice_from(roll(w->dice)), *d = &own;
+    uint64_t base = choose_base(w, d, place, item->extents, form);
     write_number(w, form->version == 2 ? 4 : 2, item->id);
     if (form->version != 0)
         write_number(w, 2, item->method | (chance(d, 10) ? roll(d) & 0xfff0 : 0));
@@ -916,9 +1302,9 @@ static void write_location(struct writer *w, const struct plan *plan, const stru
     write_number(w, form->base, item->wraps && form->base == 8 ? ~(uint64_t)0 - below(d, 40) : base);
     write_number(w, 2, item->extents);
     for (uint32_t k = 0; k < item->extents; k++) {
-        write_number(w, form->index, roll(d));
+        write_number(w, form->index, item->method == 2 ? item->index[k] : roll(d));
         write_number(w, form->offset, item->wraps && form->offset == 8 ? ~(uint64_t)0 - below(d, 40) : s[k].start - base);
-        write_number(w, form->length, s[k].length);
+        write_number(w, form->length, s[k].to_end ? 0 : s[k].length);
     }
 }
 
@@ -936,8 +1322,12 @@ static void write_iloc(struct writer *w, const struct plan *plan)
     write_number(w, 1, form.offset << 4 | form.length);
     write_number(w, 1, form.base << 4 | (form.version == 0 && chance(w->dice, 20) ? below(w->dice, 16) : form.index));
     write_number(w, form.version == 2 ? 4 : 2, count);
+    for (uint32_t chain = 0; chain <= CHAIN + 2; chain++) /* the named ones first */
+        for (uint32_t k = 0; k < plan->items; k++)
+            if (plan->item[k].chain == chain)
+                choose_stretches(w, plan, &form, k);
     for (uint32_t k = 0; k < count; k++)
-        write_location(w, plan, &plan->item[order[k]], &form);
+        write_location(w, plan, order[k], &form);
     end(w, box);
 }
 
@@ -1010,14 +1400,39 @@ static void write_reference(struct writer *w, const struct plan *plan, uint32_t 
     end(w, box);
 }
 
+/* The targets that the extents of a method 2 item pick from. */
+static void write_links(struct writer *w, const struct plan *plan, const struct picture *from, uint32_t version)
+{
+    struct open_box box = begin(w, TYPE('i', 'l', 'o', 'c'));
+    uint32_t bytes = version ? 4 : 2;
+    write_number(w, bytes, from->id);
+    write_number(w, 2, from->links);
+    for (uint32_t k = 0; k < from->links; k++)
+        write_number(w, bytes, plan->item[from->link[k]].id);
+    end(w, box);
+}
+
+/* References to write: items by place for their derivation, by place plus ITEMS for their links. */
+static uint32_t list_references(struct dice *d, const struct plan *plan, uint32_t *order)
+{
+    uint32_t count = 0;
+    for (uint32_t k = 0; k < plan->items; k++) {
+        const struct picture *item = &plan->item[plan->order[k]];
+        if (item->inputs != 0)
+            order[count++] = plan->order[k];
+        if ((item->links != 0 && !item->no_links) || (LEVEL >= 7 && chance(d, 2)))
+            order[count++] = plan->order[k] + ITEMS;
+        if (item->links_twice)
+            order[count++] = plan->order[k] + ITEMS;
+    }
+    return count;
+}
+
 static void write_iref(struct writer *w, const struct plan *plan)
 {
     static const uint32_t types[] = {TYPE('t', 'h', 'm', 'b'), TYPE('c', 'd', 's', 'c'), TYPE('a', 'u', 'x', 'l'),
                                      TYPE('f', 'r', 'e', 'e'), TYPE('i', 'l', 'o', 'c')};
-    uint32_t order[ITEMS], count = 0, version = id_version(w, 0, 1);
-    for (uint32_t k = 0; k < plan->items; k++)
-        if (plan->item[plan->order[k]].inputs != 0)
-            order[count++] = plan->order[k];
+    uint32_t order[3 * ITEMS], count = list_references(w->dice, plan, order), version = id_version(w, 0, 1);
     if (count == 0 && chance(w->dice, 70))
         return;
     if (chance(w->dice, 30))
@@ -1026,10 +1441,12 @@ static void write_iref(struct writer *w, const struct plan *plan)
     write_version(w, version, below(w->dice, 2));
     for (uint32_t k = 0; k <= count; k++) {
         if (chance(w->dice, 20))
-            write_reference(w, plan, types[below(w->dice, 5)], &plan->item[below(w->dice, plan->items)], version,
-                            below(w->dice, 4));
-        if (k < count)
+            write_reference(w, plan, types[below(w->dice, LEVEL >= 7 ? 4 : 5)], &plan->item[below(w->dice, plan->items)],
+                            version, below(w->dice, 4));
+        if (k < count && order[k] < ITEMS)
             write_reference(w, plan, TYPE('d', 'i', 'm', 'g'), &plan->item[order[k]], version, 0);
+        else if (k < count)
+            write_links(w, plan, &plan->item[order[k] - ITEMS], version);
     }
     end(w, box);
 }
@@ -1044,6 +1461,36 @@ static void write_idat(struct writer *w, const struct plan *plan)
     end(w, box);
 }
 
+/* Entries of any type and version; only the flag counts. */
+static void write_dref(struct writer *w, const struct plan *plan)
+{
+    static const uint32_t types[] = {TYPE('u', 'r', 'l', ' '), TYPE('u', 'r', 'n', ' '), TYPE('f', 'r', 'e', 'e'), 0};
+    struct open_box box = begin(w, TYPE('d', 'r', 'e', 'f'));
+    write_version(w, 0, below(w->dice, 2));
+    write_number(w, 4, plan->references);
+    for (uint32_t k = 1; k <= plan->references; k++) {
+        struct open_box entry = begin(w, types[below(w->dice, 4)]);
+        write_version(w, chance(w->dice, 70) ? 0 : below(w->dice, 256), plan->marked[k % 17]);
+        for (uint32_t n = chance(w->dice, 70) ? 0 : below(w->dice, 9); n > 0; n--)
+            write_number(w, 1, roll(w->dice));
+        end(w, entry);
+    }
+    end(w, box);
+}
+
+static void write_dinf(struct writer *w, const struct plan *plan)
+{
+    if (plan->no_dinf)
+        return;
+    struct open_box box = begin(w, TYPE('d', 'i', 'n', 'f'));
+    if (chance(w->dice, 10))
+        write_noise(w);
+    write_dref(w, plan);
+    if (chance(w->dice, 10))
+        write_noise(w);
+    end(w, box);
+}
+
 /* ---- The file ---- */
 
 static void write_child(struct writer *w, const struct plan *plan, uint32_t which)
@@ -1055,18 +1502,19 @@ static void write_child(struct writer *w, const struct plan *plan, uint32_t whic
     case 3: write_iloc(w, plan); break;
     case 4: write_iprp(w, plan); break;
     case 5: write_iref(w, plan); break;
-    default: write_idat(w, plan); break;
+    case 6: write_idat(w, plan); break;
+    default: write_dinf(w, plan); break;
     }
 }
 
 static void write_meta(struct writer *w, const struct plan *plan)
 {
-    uint32_t order[7] = {0, 1, 2, 3, 4, 5, 6};
+    uint32_t order[] = {0, 1, 2, 3, 4, 5, 6, 7}, children = sizeof order / sizeof order[0];
     struct open_box box = begin(w, TYPE('m', 'e', 't', 'a'));
     write_version(w, 0, below(w->dice, 2));
     if (chance(w->dice, 60))
-        shuffle(w->dice, order, 7);
-    for (int k = 0; k < 7; k++) {
+        shuffle(w->dice, order, children);
+    for (uint32_t k = 0; k < children; k++) {
         if (chance(w->dice, 6))
             write_noise(w);
         write_child(w, plan, order[k]);
@@ -1111,6 +1559,7 @@ static void write_file(struct writer *w, const struct plan *plan)
         write_mdat(w, plan);
     size_t meta = w->at;
     write_meta(w, plan);
+    w->meta_start = meta;
     w->meta_end = w->at;
     if (!before && (plan->blob_length[0] != 0 || chance(w->dice, 80)))
         write_mdat(w, plan);
@@ -1125,18 +1574,32 @@ static void shorten(struct dice *d, const struct plan *plan, const struct writer
     size_t needed = w->meta_end;
     for (uint32_t k = 0; k < plan->items; k++) {
         const struct picture *item = &plan->item[k];
-        size_t at = w->blob_at[0] + item->body;
-        if (!item->has_body || item->method != 0)
+        if (!item->has_body || item->blob != 0)
             continue;
-        if (plan->cut && at >= w->meta_end && item->body_length != 0 && chance(d, 50)) {
-            still->length = at + below(d, item->body_length);
-            return;
+        for (uint32_t n = 0; n < item->extents && n < EXTENTS; n++) {
+            size_t at = w->blob_at[0] + item->piece[n].at;
+            if (plan->cut && at >= w->meta_end && item->piece[n].length != 0 && chance(d, 50)) {
+                still->length = at + below(d, item->piece[n].length);
+                return;
+            }
+            if (at + item->piece[n].length > needed)
+                needed = at + item->piece[n].length;
         }
-        if (at + item->body_length > needed)
-            needed = at + item->body_length;
     }
     if (chance(d, 25) && needed < still->length)
         still->length = needed + (chance(d, 50) ? 0 : below(d, (uint32_t)(still->length - needed)));
+}
+
+/* The companion: its blob, more bytes behind it, and of those all, some or none lent. */
+static void write_companion(struct dice *d, const struct plan *plan, struct still *still)
+{
+    size_t needed = plan->blob_length[2], most = plan->companion_total < 65536 ? plan->companion_total : 65536;
+    still->companion_total = plan->companion_total;
+    still->companion_length = chance(d, 40) ? most : needed + below(d, (uint32_t)(most - needed) + 1);
+    if (LEVEL < 10)
+        still->companion_length = still->companion_total = 0;
+    for (size_t k = 0; k < still->companion_length; k++)
+        still->companion[k] = k < needed ? plan->blob[2][k] : (uint8_t)roll(d);
 }
 
 /* The file is written three times with the same dice: first to see where things come to lie, then to see the total
@@ -1144,7 +1607,11 @@ static void shorten(struct dice *d, const struct plan *plan, const struct writer
 static void write_still(struct dice *d, const struct plan *plan, struct still *still)
 {
     struct dice kept = dice_from(roll(d)), dice = kept;
-    struct writer w = {.bytes = still->head, .dice = &dice};
+    static struct writer w;
+    w.bytes = still->head;
+    w.dice = &dice;
+    w.length = w.wide_ids = 0;
+    w.blob_at[0] = w.blob_at[1] = 0;
     uint64_t extra = chance(d, 60) ? 0 : chance(d, 80) ? below(d, 1 << 20) : roll(d) >> (1 + below(d, 32));
     for (uint32_t k = 0; k < plan->items; k++)
         w.wide_ids |= plan->item[k].id > 65535;
@@ -1157,6 +1624,7 @@ static void write_still(struct dice *d, const struct plan *plan, struct still *s
     still->length = w.at;
     still->total = w.at + extra;
     shorten(d, plan, &w, still);
+    write_companion(d, plan, still);
 }
 
 /* A `meta` of size 0 needs a file that is wholly in the head, and a wide header keeps its size field of 1. */
@@ -1193,27 +1661,41 @@ static void make_still(struct dice *d, struct still *still, int faults)
 
 /* ---- Seeds ---- */
 
-static void add_seed(struct seeds *seeds, const char *path)
+static void add_seed(struct seeds *seeds, const char *path, const char *companion)
 {
     FILE *file = fopen(path, "rb");
     if (file == NULL)
         return;
     seeds->file = realloc(seeds->file, (seeds->count + 1) * sizeof *seeds->file);
-    struct seed seed = {malloc(65536), 0, 0};
-    if (seeds->file == NULL || seed.bytes == NULL)
+    struct seed seed = {malloc(65536), malloc(65536), 0, 0, 0};
+    if (seeds->file == NULL || seed.bytes == NULL || seed.companion == NULL)
         exit(2);
     seed.length = fread(seed.bytes, 1, 65536, file);
     seed.total = seed.length;
     while (fgetc(file) != EOF)
         seed.total++;
     fclose(file);
+    file = fopen(companion, "rb");
+    if (file != NULL) {
+        seed.companion_length = fread(seed.companion, 1, 65536, file);
+        fclose(file);
+    }
     seeds->file[seeds->count++] = seed;
+}
+
+void lend_companion(struct still *still, const struct seed *seed)
+{
+    memcpy(still->companion, seed->companion, seed->companion_length);
+    still->companion_length = seed->companion_length;
+    still->companion_total = seed->companion_length;
 }
 
 void free_seeds(struct seeds *seeds)
 {
-    while (seeds->count > 0)
+    while (seeds->count > 0) {
         free(seeds->file[--seeds->count].bytes);
+        free(seeds->file[seeds->count].companion);
+    }
     free(seeds->file);
 }
 
@@ -1227,14 +1709,33 @@ void add_seeds(struct seeds *seeds, const char *folder)
     struct dirent **entry;
     int count = scandir(folder, &entry, NULL, by_name); /* in order of name, so that a run repeats */
     for (int k = 0; k < count; k++) {
-        char path[1024];
+        char path[1024], companion[1024];
         snprintf(path, sizeof path, "%s/%s", folder, entry[k]->d_name);
+        snprintf(companion, sizeof companion, "%s/../companions/%s", folder, entry[k]->d_name);
         if (entry[k]->d_name[0] != '.')
-            add_seed(seeds, path);
+            add_seed(seeds, path, companion);
         free(entry[k]);
     }
     if (count >= 0)
         free(entry);
+}
+
+/* Another length or total of the companion. */
+static void damage_companion(struct dice *d, struct still *still)
+{
+    size_t length = still->companion_length;
+    switch (below(d, 6)) {
+    case 0: still->companion_total = length == 0 ? 0 : length - 1; break;
+    case 1: still->companion_total = length; break;
+    case 2: still->companion_total = chance(d, 50) ? roll(d) : below(d, 100); break;
+    case 3: still->companion_length = below(d, (uint32_t)length + 1); break;
+    case 4: still->companion_length = still->companion_total = 0; break;
+    default:
+        still->companion_length = 65535 + below(d, 3);
+        memset(still->companion + length, 0, length < 65538 ? 65538 - length : 0);
+        still->companion_total = still->companion_length + below(d, 2);
+        break;
+    }
 }
 
 void generate(struct dice *d, const struct seeds *seeds, struct still *still)
@@ -1250,10 +1751,17 @@ void generate(struct dice *d, const struct seeds *seeds, struct still *still)
             memcpy(still->head, seed->bytes, seed->length);
             still->length = seed->length;
             still->total = seed->total;
+            lend_companion(still, seed);
         } else {
             make_still(d, still, chance(d, 20));
         }
         still->clean = 0;
+        if (LEVEL >= 10 && chance(d, 12)) {
+            damage_companion(d, still);
+            if (chance(d, 20))
+                still->total = still->length - 1; /* as wrong as the companion may be */
+            return;
+        }
         for (uint32_t k = chance(d, 70) ? 1 : between(d, 2, 4); k > 0; k--)
             damage(d, still);
     }

@@ -19,7 +19,12 @@ int main(int argc, char **argv)
         add_seeds(&seeds, argv[k]);
     for (uint64_t k = 0; k < count; k++) {
         generate(&dice, &seeds, &still);
+        #if LEVEL >= 10
+        second_verdict(still.head, still.length, still.total, still.companion, still.companion_length,
+                       still.companion_total, table, 11280, out);
+#else
         second_verdict(still.head, still.length, still.total, table, 11280, out);
+#endif
         number[out[0]]++;
         bytes += still.length;
         if (still.clean && out[0] != 0 && wrong++ < 10) {
