@@ -9,8 +9,8 @@
  * Nothing needs to be checked before a call: any bytes, numbers and lengths have an answer. What C cannot show is the caller's: each pointer
  * leads to as many elements as its length says, aligned for its type, writable except for the head, and no two of them overlap. Where a length
  * is 0 the pointer is not followed and may be null; out may not.
- * Nothing is kept between calls, nothing is allocated, and every call ends; still_sources takes some 19 KB of stack, the others 16 (measured,
- * not proved). Threads may call at once if each lends its own table, list and out.
+ * Nothing is kept between calls, nothing is allocated, and every call ends; how much stack a call may take is told
+ * below (STILL_STACK_; measured by tests/stack, not proved). Threads may call at once if each lends its own table, list and out.
  *
  * What every call leaves:
  *   out[0], out[1]    the refusal's number and place, and the rest of out 0; or 0 and 0, then the answer's values as told below, and the rest 0
@@ -26,6 +26,11 @@
 #define STILL_OUT 8
 #define STILL_TABLE_WORDS 11280
 #define STILL_HEAD_MAX 65536
+
+/* Bytes of stack that a call was seen to take at most, rounded up. A trace takes most where an item has 254 turns or crops: 58,544. */
+#define STILL_STACK_TRACE 64000
+#define STILL_STACK_SOURCES 20000
+#define STILL_STACK_OTHERS 16000
 
 /* The most that a file may have; more is refusal 9. An item has at most STILL_MAX_ITEMS sources, so a list of that length is never too short. */
 #define STILL_MAX_ITEMS 256
