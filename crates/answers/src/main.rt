@@ -1,19 +1,22 @@
 // Answers questions about many heads: reads them from standard input and prints a line for each, as in the files with the right answers.
-// The input: how many heads (4 bytes); for each its name (length in 4 bytes, then the letters), the file's total (8), its bytes (length in 4, then the bytes), how many questions (4); for each question its kind (4: 0 verdict, 1 table, 2 size, 3 trace, 4 sources, 5 property, 6 orientation, 7 transforms), an item ID, or the orientation for 7 (4), and two numbers (4 each).
+// The input: how many heads (4 bytes); for each its name (length in 4 bytes, then the letters), the file's total (8),
+// its bytes (length in 4, then the bytes), how many questions (4); for each question its kind (4: 0 verdict, 1 table, 2
+// size, 3 trace, 4 sources, 5 property, 6 orientation, 7 transforms), an item ID, or the orientation for 7 (4), and two
+// numbers (4 each).
 // The table is never cleared between calls, and has 20 words more than it needs.
 ghost use mathlib.Core.Path.{_≡_};
 ghost use Prim.Native.Nat.{_<_};
 ghost use lib.ListN.{length};
+use asked::FileVerdict;
+use asked::Sized;
 use boxes::Refusal;
+use facing::Oriented;
 use facing::Transform;
 use facing::TransformList;
 use pictures::Point;
-use still::FileVerdict;
-use still::Listed;
-use still::Oriented;
-use still::Sized;
-use still::Traced;
+use sourced::Listed;
 use table::ItemId;
+use traced::Traced;
 
 fn print_more(n: u64) {
     io::write_all(1, b" ");

@@ -72,7 +72,8 @@ module _ (s : List ℕ) where
       let z : n + 1 + (length s - (n + 1)) ≡ length s = omega arith in
       let r : value s (n + 1) ≤ value s (length s) = subst (λ (m : ℕ). value s (n + 1) ≤ value s m) z (rises (n + 1) (length s - (n + 1))) in
       let w : 4294967296 ≤ value s (length s) = omega arith in
-      simp (ne-eqb (length s) 0 (λ e. absurd (omega arith)), le-ltb _ _ w) (both (λ (x : Number). x ≡ Bad) (digits s (length s)) Bad Bad (λ e. refl) (λ e. refl))
+      simp (ne-eqb (length s) 0 (λ e. absurd (omega arith)), le-ltb _ _ w)
+      (both (λ (x : Number). x ≡ Bad) (digits s (length s)) Bad Bad (λ e. refl) (λ e. refl))
 
   pub spelled : (n v : ℕ) → n ≡ length s → 0 < length s → v ≡ value s n → digits s n ≡ true → v < 4294967296 → numberOf s ≡ Is v
   unfolding numberOf pick

@@ -1,17 +1,17 @@
 // A line for each question: its word and numbers as asked, then the answer's fields or those of the refusal. `table` is lent and left as `still` leaves it.
 ghost use mathlib.Core.Path.{_≡_};
 ghost use lib.ListN.{length};
+use asked::FileVerdict;
+use asked::Sized;
 use boxes::Refusal;
+use facing::Oriented;
 use facing::Transform;
 use facing::TransformList;
 use lines::print_field;
 use pictures::Point;
-use still::FileVerdict;
-use still::Listed;
-use still::Oriented;
-use still::Sized;
-use still::Traced;
+use sourced::Listed;
 use table::ItemId;
+use traced::Traced;
 use words::say;
 
 // `refused`, number and place; the sentence follows.

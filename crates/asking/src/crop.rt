@@ -2,11 +2,11 @@
 ghost use mathlib.Core.Path.{_≡_};
 ghost use lib.ListN.{length};
 use crate::answers::print_refused;
+use asked::FileVerdict;
 use boxes::Refusal;
 use lines::print_field;
 use reading::FileRead;
 use records::FoundRow;
-use still::FileVerdict;
 use table::ItemId;
 use table::ItemRow;
 use words::say;

@@ -1,22 +1,23 @@
 // The marks of one picture in the coordinates of its reconstructed image.
 ghost use Prim.Native.Nat.{_<_};
-use crate::number::least;
 use crate::number::put;
 use crate::number::put_fraction;
 use crate::number::put_kind;
 use crate::number::put_raised;
 use crate::number::put_times;
 use crate::number::put_with;
-use crate::pose::Part;
-use crate::pose::Pose;
-use crate::pose::across_of;
-use crate::pose::down_of;
 use crate::pose::put_middle;
 use crate::pose::put_pose;
 use crate::pose::put_upright;
-use crate::turn::Margins;
 use crate::turn::put_holed;
-use crate::turn::uncut;
+use layout::Margins;
+use layout::Part;
+use layout::Pose;
+use layout::across_of;
+use layout::down_of;
+use layout::least;
+use layout::less;
+use layout::uncut;
 use pictures::Size;
 
 fn put_size(s: Size) {
@@ -178,14 +179,10 @@ pub fn put_kept(part: Part, pose: Pose, s: Size, m: Margins, scale: u32, up: boo
     let down = down_of(part, pose);
     let side = least(least(across, down) * 300000, scale as u64 * 40);
     let inset = side * 6 / 10;
-    let right = gap(across * 500000, inset);
-    let below = gap(down * 500000, inset);
+    let right = less(across * 500000, inset);
+    let below = less(down * 500000, inset);
     put(b"<g transform='");
     put_place(part, pose, right, below, up);
     put_small(frame, s, m, scale, ratio(side, longest(frame)));
     put(b"</g>\n");
-}
-
-fn gap(whole: u64, part: u64) -> u64 {
-    if whole < part { 0 } else { whole - part }
 }

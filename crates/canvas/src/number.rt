@@ -1,6 +1,5 @@
 // Numbers and letters.
-ghost use Prim.Native.Nat.{_≤_, min};
-ghost use mathlib.Core.Path.{_≡_};
+use layout::ZERO;
 
 pub fn put(text: &[u8]) {
     io::write_all(1, text);
@@ -42,9 +41,6 @@ pub fn put_fraction(text: &[u8], n: u64) {
     put(text);
     put_millionths(n);
 }
-
-// What stands for 0 where a number may be negative.
-pub const ZERO: u64 = 2147483648;
 
 // A number that may be negative, with `ZERO` added to it.
 pub fn put_raised(n: u64) {
@@ -89,12 +85,4 @@ pub fn put_kind(kind: u32) {
     put_letter(kind / 65536 % 256);
     put_letter(kind / 256 % 256);
     put_letter(kind % 256);
-}
-
-pub fn least(a: u64, b: u64) -> u64
-    ensures { λ r. ⌜ r ≤ a ⌝ }
-    ensures { λ r. ⌜ r ≤ b ⌝ }
-    ensures { λ r. ⌜ r ≡ min a b ⌝ }
-{
-    if a < b { a } else { b }
 }

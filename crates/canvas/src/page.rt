@@ -1,15 +1,15 @@
 // The page around a picture: its look, its field and its legend.
 ghost use mathlib.Core.Path.{_≡_};
 ghost use Rattle.canvas.specs.Scale.{scaleOf};
-use crate::number::least;
 use crate::number::put;
 use crate::number::put_fraction;
 use crate::number::put_number;
 use crate::number::put_with;
-use crate::pose::Pose;
 use crate::pose::put_upright;
-use crate::turn::Margins;
-use crate::turn::uncut;
+use layout::Margins;
+use layout::Pose;
+use layout::least;
+use layout::uncut;
 use pictures::Size;
 
 // A page of 1,200 by so many steps on the screen.

@@ -1,18 +1,18 @@
 // What is written on a picture: upright, whichever way the picture lies.
 ghost use Prim.Native.Nat.{_≤_};
-use crate::number::least;
 use crate::number::put;
 use crate::number::put_fraction;
 use crate::number::put_kind;
 use crate::number::put_number;
 use crate::number::put_times;
 use crate::number::put_with;
-use crate::pose::Part;
-use crate::pose::Pose;
-use crate::pose::across_of;
-use crate::pose::down_of;
 use crate::pose::put_middle;
 use crate::pose::put_upright;
+use layout::Part;
+use layout::Pose;
+use layout::across_of;
+use layout::down_of;
+use layout::least;
 use pictures::Turn;
 
 // At the left edge of what is seen of a picture, at its bottom or at its top, in steps of so many millionths.

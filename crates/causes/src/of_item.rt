@@ -64,81 +64,22 @@ fn print_reach(fd: i32, table: &[u32], row: ItemRow, total: u64) {
     say(fd, b" bytes");
 }
 
-// The place among an item's properties of the first essential one that this reader does not know, or how many there are.
-fn first_unknown(table: &[u32], row: ItemRow) -> usize {
-    let n = declared::property_count(table, row);
-    let mut j: usize = 0;
-    while j < n {
-        if 32768 <= views::association_of(table, row, j) {
-            if !declared::is_known(declared::kind_of(table, row, j)) {
-                return j;
-            }
-        }
-        j += 1;
-    }
-    n
+// What is looked for among an item's properties, or among its inputs.
+enum Sought {
+    // An essential property that this reader does not know.
+    Unknown,
+    Ispe,
+    // A turn or crop.
+    Transform,
+    // An input that is no picture.
+    Opaque,
 }
 
-// 15: protected, or a property that is needed and not known.
-fn print_need(fd: i32, table: &[u32], row: ItemRow) {
-    if views::record_word(table, row, 12) != 0 {
-        return say(fd, b"is protected");
+fn is_unknown(table: &[u32], row: ItemRow, j: usize) -> bool {
+    if views::association_of(table, row, j) < 32768 {
+        return false;
     }
-    let kind = declared::kind_of(table, row, first_unknown(table, row));
-    if kind == 0 {
-        return say(
-            fd,
-            b"needs a property that it names by index 0, which is none",
-        );
-    }
-    say(fd, b"needs a property of type ");
-    words::print_kind(fd, kind);
-    say(fd, b", which this reader does not know");
-}
-
-// The place among an item's properties of the first `ispe` from a place on, or how many properties there are.
-fn size_from(table: &[u32], row: ItemRow, from: usize) -> usize {
-    let n = declared::property_count(table, row);
-    if n < from {
-        return n;
-    }
-    let mut j = from;
-    while j < n {
-        if declared::kind_of(table, row, j) == ISPE {
-            return j;
-        }
-        j += 1;
-    }
-    n
-}
-
-// The type of an item's first turn or crop, 0 where it has none.
-fn first_transform(table: &[u32], row: ItemRow) -> u32 {
-    let n = declared::property_count(table, row);
-    let mut j: usize = 0;
-    while j < n {
-        let kind = declared::kind_of(table, row, j);
-        if declared::is_transform(kind) {
-            return kind;
-        }
-        j += 1;
-    }
-    0
-}
-
-// 16: no size, several, or one behind a turn or crop.
-fn print_size(fd: i32, table: &[u32], row: ItemRow) {
-    let n = declared::property_count(table, row);
-    let first = size_from(table, row, 0);
-    if n <= first {
-        return say(fd, b"does not say its size (it has no `ispe`)");
-    }
-    if size_from(table, row, first + 1) < n {
-        return say(fd, b"says its size more than once (`ispe`)");
-    }
-    say(fd, b"says its size (`ispe`) only after its `");
-    words::print_kind(fd, first_transform(table, row));
-    say(fd, b"`");
+    !declared::is_known(declared::kind_of(table, row, j))
 }
 
 // Whether an ID names a picture.
@@ -150,17 +91,59 @@ fn is_picture(table: &[u32], id: ItemId) -> bool {
     }
 }
 
-// The place of the first input that is no picture, or how many inputs there are.
-fn first_opaque(table: &[u32], row: ItemRow) -> usize {
-    let n = views::record_word(table, row, 6) as usize;
-    let mut j: usize = 0;
+fn is_sought(table: &[u32], row: ItemRow, sought: Sought, j: usize) -> bool {
+    match sought {
+        Sought::Unknown => is_unknown(table, row, j),
+        Sought::Ispe => declared::kind_of(table, row, j) == ISPE,
+        Sought::Transform => declared::is_transform(declared::kind_of(table, row, j)),
+        Sought::Opaque => !is_picture(table, views::target_of(table, row, j)),
+    }
+}
+
+// The first place of what is sought from a place on, of n places; n where there is none.
+fn first_from(table: &[u32], row: ItemRow, sought: Sought, from: usize, n: usize) -> usize {
+    let mut j = from;
     while j < n {
-        if !is_picture(table, views::target_of(table, row, j)) {
+        if is_sought(table, row, sought, j) {
             return j;
         }
         j += 1;
     }
     n
+}
+
+// 15: protected, or a property that is needed and not known.
+fn print_need(fd: i32, table: &[u32], row: ItemRow) {
+    if views::record_word(table, row, 12) != 0 {
+        return say(fd, b"is protected");
+    }
+    let n = declared::property_count(table, row);
+    let kind = declared::kind_of(table, row, first_from(table, row, Sought::Unknown, 0, n));
+    if kind == 0 {
+        return say(
+            fd,
+            b"needs a property that it names by index 0, which is none",
+        );
+    }
+    say(fd, b"needs a property of type ");
+    words::print_kind(fd, kind);
+    say(fd, b", which this reader does not know");
+}
+
+// 16: no size, several, or one behind a turn or crop.
+fn print_size(fd: i32, table: &[u32], row: ItemRow) {
+    let n = declared::property_count(table, row);
+    let first = first_from(table, row, Sought::Ispe, 0, n);
+    if n <= first {
+        return say(fd, b"does not say its size (it has no `ispe`)");
+    }
+    if first_from(table, row, Sought::Ispe, first + 1, n) < n {
+        return say(fd, b"says its size more than once (`ispe`)");
+    }
+    say(fd, b"says its size (`ispe`) only after its `");
+    let j = first_from(table, row, Sought::Transform, 0, n);
+    words::print_kind(fd, declared::kind_of(table, row, j));
+    say(fd, b"`");
 }
 
 // 17: inputs where there may be none, none where there must be, one that is no picture; else their number or the body.
@@ -174,7 +157,7 @@ fn print_inputs(fd: i32, table: &[u32], row: ItemRow) {
     if n == 0 {
         return say(fd, b"is to be made from others, and has no inputs");
     }
-    let j = first_opaque(table, row);
+    let j = first_from(table, row, Sought::Opaque, 0, n);
     if j < n {
         say(fd, b"is made from item ");
         let id = views::target_of(table, row, j);

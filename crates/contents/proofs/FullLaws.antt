@@ -2,11 +2,11 @@
 use Prim.Native.Nat.{ℕ, _+_, _≤_, _<_}
 use native.Mathlib.Omega.{arith}
 use mathlib.Core.Path.{_≡_, refl, sym, ap, _∙_}
-use mathlib.Core.List.{List}
+use mathlib.Core.List.{List, _++_, append-nil}
 use mathlib.Core.Bool.{Bool, true, false}
 use mathlib.Core.Logic.{_⊎_, inl, inr, ⊎-elim}
 use native.Mathlib.Decide.{decLe}
-use lib.ListN.{length, drop}
+use lib.ListN.{length, drop, length-append}
 use lib.Dec.{leb, eqb}
 use borrow.Author.Tests.{eq-eqb, ne-eqb, le-leb, lt-leb}
 use Rattle.fields.specs.Field.{beAt}
@@ -14,7 +14,25 @@ use Rattle.boxes.specs.Answer.{Answer, ok, refuse}
 use Rattle.boxes.specs.Types.{pict}
 use Rattle.forms.specs.Form.{Got, got, give, demand, field, whole, front, _>>=_, _>>_}
 use Rattle.boxes.specs.declared.Refusal.{Refusal}
-use Rattle.forms.proofs.StepLaws.{reads, over, whole-reads, front-reads, read-reads, reads-got, reads-refused, reads-bind, reads-field, reads-short, reads-yes, reads-no, reads-give, over-end, over-left}
+use Rattle.forms.proofs.StepLaws.{
+  reads,
+  over,
+  whole-reads,
+  front-reads,
+  read-reads,
+  reads-got,
+  reads-refused,
+  reads-bind,
+  reads-field,
+  reads-short,
+  reads-yes,
+  reads-no,
+  reads-give,
+  over-end,
+  over-left,
+}
+use Rattle.forms.proofs.SpellLaws.{give-out, demand-out, field-long, field-is, bind-out}
+use Rattle.fields.proofs.FieldLaws.{be-front, be-past}
 use Rattle.fields.proofs.TestLaws.{and-none}
 use Rattle.contents.specs.Full.{Full, full, between, upto, idBytes}
 use Rattle.contents.specs.Hdlr.{hdlr-form}
@@ -56,6 +74,26 @@ module _ (a : ℕ → Bool) (p : ℕ) (s : List ℕ) where
       rw (read-reads, reads-bind)
       (reads-field p s 0 1 _ (omega arith)
       ∙ rw reads-bind (reads-yes p (drop 1 s) 6 _ _ e ∙ rw reads-bind (reads-field p s 1 3 _ (omega arith) ∙ reads-give p (drop 4 s) _ _)))
+
+-- what the bytes are that spell it
+pub full-out : (allowed : ℕ → Bool) (l : List ℕ) (v : Full) → full allowed .Spells l v →
+    (length l ≡ 4) × (v .version ≡ beAt l 0 1) × (v .flags ≡ beAt l 1 3)
+unfolding full
+full-out allowed l v h =
+    let j = bind-out _ _ l v h in
+    let c = demand-out 6 _ _ (j .right) v (j .then) in
+    let k = bind-out _ _ (j .right) v (c .1) in
+    let g = give-out _ v (k .right) (k .then) in
+    let z : k .left ≡ j .right = sym (append-nil (k .left)) ∙ ap (λ (r : List ℕ). k .left ++ r) (sym (g .0)) ∙ k .join in
+    let e : j .left ++ k .left ≡ l = ap (λ (r : List ℕ). j .left ++ r) z ∙ j .join in
+    let x = field-long 1 (j .left) (j .value) (j .first) in
+    let y = field-long 3 (k .left) (k .value) (k .first) in (
+      ap length (sym e) ∙ length-append (j .left) (k .left) ∙ (let x = x in omega (arith, x, y)),
+      ap (λ (a : Full). a .version) (g .1) ∙ sym (field-is 1 (j .left) (j .value) (j .first))
+          ∙ sym (be-front (j .left) (k .left) 0 1 (omega (arith, x))) ∙ ap (λ (r : List ℕ). beAt r 0 1) e,
+      ap (λ (a : Full). a .flags) (g .1) ∙ sym (field-is 3 (k .left) (k .value) (k .first))
+          ∙ sym (be-past (j .left) (k .left) 1 0 3 x) ∙ ap (λ (r : List ℕ). beAt r 1 3) e,
+    )
 
 -- toldFull: what the code's value says of the bytes
 pub record FullHere (a : ℕ → Bool) (p : ℕ) (s : List ℕ) (v f : ℕ) : Type 0 where
@@ -117,7 +155,8 @@ module _ (p : ℕ) (s : List ℕ) where
     hdlr-short l =
         rw (front-reads, reads-bind)
         (reads-got (full (upto 0)) p s _ _ _ (h .read)
-        ∙ rw reads-bind (⊎-elim (λ k. reads-short p s 4 4 _ (h .room) k) (λ k. reads-field p s 4 4 _ k ∙ rw reads-bind (reads-short p s 8 4 _ k l)) (before 8 (length s))))
+        ∙ rw reads-bind (⊎-elim (λ k. reads-short p s 4 4 _ (h .room) k)
+        (λ k. reads-field p s 4 4 _ k ∙ rw reads-bind (reads-short p s 8 4 _ k l)) (before 8 (length s))))
       where
         before : (m n : ℕ) → (n < m) ⊎ (m ≤ n)
         before m n = elim (decLe m n) [ yes l ↦ inr l | no q ↦ inl (omega (arith, q)) ]

@@ -48,7 +48,8 @@ items-few s is h =
     omega (arith, items-count [] (h .then .boxes) is (h .then .through), h .then .count, count-few (h .fields) (h .value) (h .spells))
 
 -- extentsIn
-entry-room : (ids : List ℕ) (v os ls bs ix : ℕ) (before : List Location) (u : List ℕ) (l : Location) → entry-form ids v os ls bs ix before .Spells u l → extentsIn before + length (l .extents) ≤ 512
+entry-room : (ids : List ℕ) (v os ls bs ix : ℕ) (before : List Location) (u : List ℕ) (l : Location) →
+    entry-form ids v os ls bs ix before .Spells u l → extentsIn before + length (l .extents) ≤ 512
 unfolding entry-form _>>=_ demand give
 entry-room ids v os ls bs ix before u l s =
     let t = s .then .then .then .then .then .then in
@@ -60,10 +61,12 @@ pub extents-few : (ids s : List ℕ) (ls : List Location) → iloc-form ids .Spe
 unfolding iloc-form _>>=_ demand extentsIn
 extents-few ids s ls h =
     let t = h .then .then .then .then .then .then .then .then .then in
-    many-keeps (λ (l : List Location). extentsIn l ≤ 512) _ (λ before u l p q. rw (extents-more before l) (entry-room ids _ _ _ _ _ before u l q)) _ [] _ ls (omega arith) t
+    many-keeps (λ (l : List Location). extentsIn l ≤ 512) _
+    (λ before u l p q. rw (extents-more before l) (entry-room ids _ _ _ _ _ before u l q)) _ [] _ ls (omega arith) t
 
 -- associationsIn
-named-room : (ids : List ℕ) (most v bytes : ℕ) (before : List Named) (u : List ℕ) (n : Named) → named-form ids most v bytes before .Spells u n → associationsIn before + length (n .list) ≤ 2048
+named-room : (ids : List ℕ) (most v bytes : ℕ) (before : List Named) (u : List ℕ) (n : Named) →
+    named-form ids most v bytes before .Spells u n → associationsIn before + length (n .list) ≤ 2048
 unfolding named-form _>>=_ demand give
 named-room ids most v bytes before u n s =
     let t = s .then .then .then in
@@ -74,10 +77,13 @@ named-room ids most v bytes before u n s =
 pub associations-few : (ids : List ℕ) (most : ℕ) (s : List ℕ) (ns : List Named) → ipma-form ids most .Spells s ns → associationsIn ns ≤ 2048
 unfolding ipma-form _>>=_ demand associationsIn
 associations-few ids most s ns h =
-    many-keeps (λ (l : List Named). associationsIn l ≤ 2048) _ (λ before u n p q. rw (associations-more before n) (named-room ids most _ _ before u n q)) _ [] _ ns (omega arith) (h .then .then .then)
+    many-keeps (λ (l : List Named). associationsIn l ≤ 2048) _
+    (λ before u n p q. rw (associations-more before n) (named-room ids most _ _ before u n q)) _ [] _ ns
+    (omega arith) (h .then .then .then)
 
 -- targetsIn
-reference-room : (ids : List ℕ) (bytes : ℕ) (before : List Derivation) (u : List ℕ) (d : Derivation) → reference-form ids bytes true before .Spells u d → targetsIn before + length (d .targets) ≤ 2048
+reference-room : (ids : List ℕ) (bytes : ℕ) (before : List Derivation) (u : List ℕ) (d : Derivation) →
+    reference-form ids bytes true before .Spells u d → targetsIn before + length (d .targets) ≤ 2048
 unfolding reference-form _>>=_ demand give
 reference-room ids bytes before u d s =
     let t = s .then .then .then in
@@ -85,7 +91,8 @@ reference-room ids bytes before u d s =
     let k = many-length _ (t .value) [] (w .left) (w .value) (w .first) in
     rw (w .then .1) (omega (arith, leb-true (targetsIn before + t .value) 2048 (t .then .then .first .1)))
 
-reference-keeps : (ids : List ℕ) (bytes : ℕ) (before : List Derivation) (b : List ℕ) (after : List Derivation) → targetsIn before ≤ 2048 → ReferenceStep ids bytes before b after → targetsIn after ≤ 2048
+reference-keeps : (ids : List ℕ) (bytes : ℕ) (before : List Derivation) (b : List ℕ) (after : List Derivation) →
+    targetsIn before ≤ 2048 → ReferenceStep ids bytes before b after → targetsIn after ≤ 2048
 reference-keeps ids bytes before b after p r =
     rw (r .kept)
     (both (λ (l : List Derivation). targetsIn l ≤ 2048) (eqb (kindOf b) dimg) _ _
@@ -93,7 +100,8 @@ reference-keeps ids bytes before b after p r =
 
 pub references-few : (ids : List ℕ) (bytes : ℕ) (bs : List (List ℕ)) (ds : List Derivation) → Through (ReferenceStep ids bytes) [] bs ds → targetsIn ds ≤ 2048
 unfolding targetsIn
-references-few ids bytes bs ds h = through-keeps (λ (l : List Derivation). targetsIn l ≤ 2048) (ReferenceStep ids bytes) (reference-keeps ids bytes) [] bs ds (omega arith) h
+references-few ids bytes bs ds h = through-keeps (λ (l : List Derivation). targetsIn l ≤ 2048)
+    (ReferenceStep ids bytes) (reference-keeps ids bytes) [] bs ds (omega arith) h
 
 pub targets-few : (ids : List ℕ) (bs : List (List ℕ)) (ds : List Derivation) → Referred ids bs ds → targetsIn ds ≤ 2048
 unfolding targetsIn

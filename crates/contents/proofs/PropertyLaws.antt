@@ -136,7 +136,8 @@ any-sound p at s bs e = children-sound (λ k. false) p at s bs e
 
 any-complete : (p at : ℕ) (s : List ℕ) (bs : List (List ℕ)) → All IsBox bs → flat bs ≡ s → contain anyBox p at [] s ≡ ok bs
 unfolding once check _>>_
-any-complete p at s bs a j = children-complete (λ k. false) p at s bs (record { all = a; joined = j; few = λ k q. let z : _≡_ {A = ℕ} 0 1 = cc in absurd (omega arith) })
+any-complete p at s bs a j = children-complete (λ k. false) p at s bs
+    (record { all = a; joined = j; few = λ k q. let z : _≡_ {A = ℕ} 0 1 = cc in absurd (omega arith) })
 
 -- shown
 pub shown-sound : (ids : List ℕ) (p at : ℕ) (s : List ℕ) (v : Shown) → shown ids p at s ≡ ok v → Shows ids s v

@@ -17,14 +17,16 @@ use Rattle.contents.specs.Keeps.{ReferenceStep, References, Referred}
 
 module _ (ids : List ℕ) where
   -- reference
-  pub reference-sound : (bytes at : ℕ) (before : List Derivation) (b : List ℕ) (after : List Derivation) → reference ids bytes at before b ≡ ok after → ReferenceStep ids bytes before b after
+  pub reference-sound : (bytes at : ℕ) (before : List Derivation) (b : List ℕ) (after : List Derivation) →
+      reference ids bytes at before b ≡ ok after → ReferenceStep ids bytes before b after
   unfolding reference
   reference-sound bytes at before b after e =
       let f = reference-form ids bytes (eqb (kindOf b) dimg) before in
       let x = bind-ok _ _ after e in
       record { value = x .0; spells = whole-sound f at _ _ (x .1); kept = sym (ok-inj _ _ (x .2)) }
 
-  pub reference-complete : (bytes at : ℕ) (before : List Derivation) (b : List ℕ) (after : List Derivation) → ReferenceStep ids bytes before b after → reference ids bytes at before b ≡ ok after
+  pub reference-complete : (bytes at : ℕ) (before : List Derivation) (b : List ℕ) (after : List Derivation) →
+      ReferenceStep ids bytes before b after → reference ids bytes at before b ≡ ok after
   unfolding reference
   reference-complete bytes at before b after h =
       let f = reference-form ids bytes (eqb (kindOf b) dimg) before in
@@ -34,12 +36,14 @@ module _ (ids : List ℕ) where
   pub references-sound : (p at : ℕ) (s : List ℕ) (ds : List Derivation) → references ids p at s ≡ ok ds → References ids s ds
   unfolding references
   references-sound p at s ds e =
-      lead-sound _ _ (full (upto 1)) (λ h a r. contain-sound _ (reference ids (idBytes (h .version))) (reference-sound (idBytes (h .version))) p a [] r) p at s ds e
+      lead-sound _ _ (full (upto 1)) (λ h a r. contain-sound _ (reference ids (idBytes (h .version)))
+      (reference-sound (idBytes (h .version))) p a [] r) p at s ds e
 
   pub references-complete : (p at : ℕ) (s : List ℕ) (ds : List Derivation) → References ids s ds → references ids p at s ≡ ok ds
   unfolding references
   references-complete p at s ds h =
-      lead-complete _ _ (full (upto 1)) (λ h a r. contain-complete _ (reference ids (idBytes (h .version))) (reference-complete (idBytes (h .version))) p a [] r) p at s ds h
+      lead-complete _ _ (full (upto 1)) (λ h a r. contain-complete _ (reference ids (idBytes (h .version)))
+      (reference-complete (idBytes (h .version))) p a [] r) p at s ds h
 
   -- referred
   pub referred-sound : (p : ℕ) (bs : List (List ℕ)) (ds : List Derivation) → referred ids p bs ≡ ok ds → Referred ids bs ds

@@ -41,7 +41,8 @@ unfoldable pub dataOf : List (List ℕ) → List ℕ
 dataOf [] = []
 dataOf (b ∷ bs) = bodyOf b
 
--- "all its children (3 and doubles, first by offset; then missing); then the contents of `hdlr`, `pitm`, `iinf`, `iloc`, `iprp`, `iref`, fields in byte order, first fault given"
+-- "all its children (3 and doubles, first by offset; then missing); then the contents of `hdlr`, `pitm`, `iinf`,
+-- `iloc`, `iprp`, `iref`, fields in byte order, first fault given"
 unfoldable pub contentsOf : ℕ → ℕ → List ℕ → Answer File
 contentsOf p at s = do
   bs ← children known p at s
@@ -56,7 +57,16 @@ contentsOf p at s = do
   ls ← whole (iloc-form (idsOf is)) (placeOf iloc at bs) (bodyOf l)
   both ← shown (idsOf is) (placeOf iprp at bs) (placeOf iprp at bs + headOf r) (bodyOf r)
   ds ← referred (idsOf is) (placeOf iref at bs) (ofKind iref bs)
-  ok (record { primary = primary; items = is; locations = ls; properties = both .properties; associations = both .associations; derivations = ds; idat = dataOf (ofKind idat bs) })
+  ok (record {
+    primary = primary;
+    items = is;
+    locations = ls;
+    properties = both .properties;
+    associations =
+        both .associations;
+    derivations = ds;
+    idat = dataOf (ofKind idat bs);
+  })
 
 -- "Then the version of `meta`"
 unfoldable pub fileOf : ℕ → ℕ → List ℕ → Answer File

@@ -40,7 +40,7 @@ infe-form before = do
 unfoldable pub infe-step : ℕ → List Item → List ℕ → Answer (List Item)
 infe-step at before b = Ans._>>_ (check 10 at (eqb (kindOf b) infe)) (Ans._>>=_ (front (infe-form before) at (bodyOf b)) (λ i. ok (before ++ (i ∷ []))))
 
--- "`iinf` version 0 (16-bit count) or 1 (32-bit)"; "256 items"
+-- "`iinf` version 0 (16-bit count) or 1 (32-bit)"; "256 items". The count is as wide as an ID of that version.
 unfoldable pub iinf-count : Form ℕ
 iinf-count = do
   h ← full (upto 1)

@@ -11,7 +11,7 @@ use Rattle.fields.specs.Lists.{member}
 use Rattle.forms.specs.Form.{Form, give, demand, field, many, _>>=_, _>>_}
 use Rattle.contents.specs.Full.{Full, full, upto}
 
--- the index is read and, in the base, used for nothing
+-- the index is read from version 1 on and kept; document 01 uses it for nothing
 pub record Extent : Type 0 where
   pub index : ℕ
   pub offset : ℕ
@@ -57,7 +57,8 @@ entry-form ids v os ls bs ix before = do
   es ← many (extent-form ix os ls) n []
   give (record { id = id; method = m % 16; reference = d; base = b; extents = es })
 
--- "version 0, 1, 2: four 4-bit field sizes, each 0, 4 or 8 (index size only from version 1), else 10; 16-bit item count and IDs, 32-bit in version 2"; "The first [limit, 256] holds for `iloc` .. counts too"
+-- "version 0, 1, 2: four 4-bit field sizes, each 0, 4 or 8 (index size only from version 1), else 10; 16-bit item count
+-- and IDs, 32-bit in version 2"; "The first [limit, 256] holds for `iloc` .. counts too"
 unfoldable pub iloc-form : List ℕ → Form (List Location)
 iloc-form ids = do
   h ← full (upto 2)

@@ -1,4 +1,5 @@
--- A file that keeps the rules of 2 to 11, said without reading: which bytes spell which structure. No order of reading, no cursor, no place.
+-- A file that keeps the rules of 2 to 11, said without reading: which bytes spell which structure. No order of reading,
+-- no cursor; the only place is where `meta` stands.
 --   ItemStep, ..            one box in the list that it belongs to
 --   Properties s ps         the content s of an `ipco` is the properties ps
 --   Shows ids s v           the content s of an `iprp` is properties and associations v

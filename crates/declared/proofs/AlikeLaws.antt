@@ -12,9 +12,8 @@ use lib.Seq.{ext-getD}
 use Rattle.fields.specs.Choice.{pick}
 use Rattle.contents.specs.Ipma.{Association}
 use Rattle.contents.specs.File.{File}
-use Rattle.rules.specs.Joined.{associationsOf}
+use Rattle.rules.specs.Joined.{associationsOf, noAssociation}
 use Rattle.rules.specs.Places.{Places}
-use Rattle.rules.specs.Questions.{noAssociation}
 use Rattle.rules.specs.Words.{associationWord}
 use Rattle.views.specs.View.{TableOf}
 use Rattle.declared.specs.Told.{toldSizes}
@@ -38,16 +37,20 @@ same-word a b h l e =
 -- the items a and b of a table, as far as number j
 module _ {t head : List ℕ} {pl : Places} {f : File} (v : TableOf t head pl f) (a b j : ℕ) where
   -- w and u are the words of those with number j
-  pub alike-more : j < length (associationsOf f a) → j < length (associationsOf f b) → (w u : ℕ) → w ≡ associationWord (getD (associationsOf f a) j noAssociation) → u ≡ associationWord (getD (associationsOf f b) j noAssociation) → w ≡ u
+  pub alike-more : j < length (associationsOf f a) → j < length (associationsOf f b) → (w u : ℕ) →
+      w ≡ associationWord (getD (associationsOf f a) j noAssociation) →
+      u ≡ associationWord (getD (associationsOf f b) j noAssociation) → w ≡ u
       → AlikeTo f a b j → AlikeTo f a b (j + 1)
   alike-more l m w u ew eu e s i h =
       ⊎-elim
       (λ z. subst (λ (k : ℕ). getD (associationsOf f a) k noAssociation ≡ getD (associationsOf f b) k noAssociation) (sym z)
-      (same-word _ _ (omega (arith, v .sound .indexed a j l, v .bounded .few-properties)) (omega (arith, v .sound .indexed b j m, v .bounded .few-properties)) (sym ew ∙ e ∙ eu)))
+      (same-word _ _ (omega (arith, v .sound .indexed a j l, v .bounded .few-properties))
+      (omega (arith, v .sound .indexed b j m, v .bounded .few-properties)) (sym ew ∙ e ∙ eu)))
       (s i)
       (eq-or-lt-of-le {n = i} {m = j} (omega arith))
 
-pub alike-all : (f : File) (a b j : ℕ) → j ≡ length (associationsOf f a) → j ≡ length (associationsOf f b) → AlikeTo f a b j → associationsOf f a ≡ associationsOf f b
+pub alike-all : (f : File) (a b j : ℕ) → j ≡ length (associationsOf f a) → j ≡ length (associationsOf f b) →
+    AlikeTo f a b j → associationsOf f a ≡ associationsOf f b
 alike-all f a b j h l s = ext-getD noAssociation (associationsOf f a) (associationsOf f b) (sym h ∙ l) (λ i q. s i (omega arith))
 
 -- toldSizes

@@ -8,9 +8,8 @@ use Rattle.boxes.specs.Types.{knownProperty}
 use Rattle.boxes.specs.Box.{kindOf}
 use Rattle.contents.specs.Ipma.{Association}
 use Rattle.contents.specs.File.{File}
-use Rattle.rules.specs.Joined.{associationsOf, typesOf, propertyAt}
+use Rattle.rules.specs.Joined.{associationsOf, typesOf, propertyAt, noAssociation}
 use Rattle.rules.specs.Places.{Places}
-use Rattle.rules.specs.Questions.{noAssociation}
 use Rattle.rules.specs.Rules.{essentialKnown}
 use Rattle.rules.specs.Words.{associationWord}
 use Rattle.views.specs.View.{TableOf}
@@ -22,7 +21,8 @@ module _ (f : File) (a : Association) (rest : List Association) where
   unfolding essentialKnown
   known-plain e = ap (λ (t : Bool). (not t || knownProperty (kindOf (propertyAt f (a .index)))) && essentialKnown f rest) e
 
-  known-marked : (t : Bool) → a .essential ≡ true → knownProperty (kindOf (propertyAt f (a .index))) ≡ t → essentialKnown f (a ∷ rest) ≡ (t && essentialKnown f rest)
+  known-marked : (t : Bool) → a .essential ≡ true → knownProperty (kindOf (propertyAt f (a .index))) ≡ t →
+      essentialKnown f (a ∷ rest) ≡ (t && essentialKnown f rest)
   unfolding essentialKnown
   known-marked t e q =
       ap (λ (u : Bool). (not u || knownProperty (kindOf (propertyAt f (a .index)))) && essentialKnown f rest) e

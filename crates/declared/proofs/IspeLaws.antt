@@ -80,7 +80,9 @@ module _ (k : ℕ) (ks : List ℕ) where
 
   good-early : (k ≡ ispe → ⊥) → transform k ≡ true → goodBehind false (k ∷ ks) ≡ false
   unfolding goodBehind
-  good-early n e = rw (count-other k ks n, before-turn k ks e) (and-false (eqb (countOf ispe ks) 1) (eqb (countOf ispe ks) 0) (λ a b. omega (arith, eqb-true (countOf ispe ks) 1 a, eqb-true (countOf ispe ks) 0 b)))
+  good-early n e = rw (count-other k ks n, before-turn k ks e)
+      (and-false (eqb (countOf ispe ks) 1) (eqb (countOf ispe ks) 0)
+      (λ a b. omega (arith, eqb-true (countOf ispe ks) 1 a, eqb-true (countOf ispe ks) 0 b)))
 
 -- from the type k with number j on
 module _ (ks : List ℕ) (j : ℕ) (l : j < length ks) (k : ℕ) (e : k ≡ getD ks j 0) where

@@ -19,9 +19,8 @@ use Rattle.contents.specs.Ipma.{Association}
 use Rattle.contents.specs.File.{File}
 use Rattle.pictures.specs.Decode.{transform}
 use Rattle.pictures.specs.Told.{Sized}
-use Rattle.rules.specs.Joined.{associationsOf, boxesOf, typesOf, propertyAt}
+use Rattle.rules.specs.Joined.{associationsOf, boxesOf, typesOf, propertyAt, noAssociation}
 use Rattle.rules.specs.Places.{Places}
-use Rattle.rules.specs.Questions.{noAssociation}
 use Rattle.rules.specs.Words.{associationWord}
 use Rattle.views.specs.View.{TableOf}
 use Rattle.views.proofs.PartLaws.{full-length}
@@ -113,7 +112,8 @@ module _ {t head : List ℕ} {pl : Places} {f : File} (v : TableOf t head pl f) 
   box-held l =
       let i = getD (associationsOf f id) j noAssociation .index in
       let n = v .sound .indexed id j l in
-      subst Good (sym (box-at f id j)) (both Good (eqb i 0) [] (getD (f .properties) (i - 1) []) (λ e. held-nothing) (λ e. v .sound .held (i - 1) (omega (arith, eqb-false i 0 e))))
+      subst Good (sym (box-at f id j)) (both Good (eqb i 0) [] (getD (f .properties) (i - 1) []) (λ e. held-nothing)
+      (λ e. v .sound .held (i - 1) (omega (arith, eqb-false i 0 e))))
 
   module _ (l : j < length (associationsOf f id)) (w : ℕ) (e : w ≡ associationWord (getD (associationsOf f id) j noAssociation)) where
     index-small : getD (associationsOf f id) j noAssociation .index < 32768

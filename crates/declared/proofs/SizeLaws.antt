@@ -1,5 +1,6 @@
 -- The declared size and the size through all transforms, box by box. Assumes nothing.
---   sizesBehind s d o bs    both sizes, by the boxes bs behind others: where s holds, those declared d and led to o, and else they neither declared a size nor changed it
+-- sizesBehind s d o bs    both sizes, by the boxes bs behind others: where s holds, those declared d and led to o, and
+-- else they neither declared a size nor changed it
 use Prim.Native.Nat.{ℕ, _+_, _≤_, _<_}
 use native.Mathlib.Omega.{arith}
 use mathlib.Core.Path.{_≡_, refl, sym, ap, _∙_}
@@ -44,7 +45,9 @@ module _ (b : List ℕ) (bs : List (List ℕ)) where
   unfolding declaredIn
   declared-past n = pick-no _ _ (ne-eqb (kindOf b) ispe n)
 
-  through-turn : (s : Size) → transform (kindOf b) ≡ true → sizeThrough (turnsOf s (b ∷ bs)) s ≡ sizeThrough (turnsOf (sizeAfter (turnOf s b) s) bs) (sizeAfter (turnOf s b) s)
+  through-turn : (s : Size) → transform (kindOf b) ≡ true →
+      sizeThrough (turnsOf s (b ∷ bs)) s ≡ sizeThrough (turnsOf (sizeAfter (turnOf s b) s) bs)
+      (sizeAfter (turnOf s b) s)
   unfolding turnsOf sizeThrough
   through-turn s e = ap (λ (ts : List Turn). sizeThrough ts s) (pick-yes _ _ e)
 
@@ -69,7 +72,8 @@ module _ {t head : List ℕ} {pl : Places} {f : File} (v : TableOf t head pl f) 
       ap (through s) boxes-left
       ∙ through-other _ _ s (ap transform (sym kind-said) ∙ q)
 
-  pub sizes-skip : (s : Bool) (d o : Size) → (k ≡ ispe → ⊥) → transform k ≡ false → sizesBehind s d o (drop j (boxesOf f id)) ≡ sizesBehind s d o (drop (j + 1) (boxesOf f id))
+  pub sizes-skip : (s : Bool) (d o : Size) → (k ≡ ispe → ⊥) → transform k ≡ false →
+      sizesBehind s d o (drop j (boxesOf f id)) ≡ sizesBehind s d o (drop (j + 1) (boxesOf f id))
   unfolding sizesBehind
   sizes-skip true d o n q = ap (Are d) (through-skip o q)
   sizes-skip false d o n q = rw (through-skip (declaredIn (drop j (boxesOf f id))) q, declared-skip n)

@@ -35,7 +35,8 @@ use Rattle.declared.proofs.SizeLaws.{through, sizesBehind, sizes-all, s
 
 module _ (f : File) (id : ℕ) where
   unfoldable pub toldFrom : ℕ → Bool → Size → Size → SizesRead
-  toldFrom j s d o = pick (essentialKnown f (drop j (associationsOf f id)) && goodBehind s (drop j (typesOf f id))) (sizesBehind s d o (drop j (boxesOf f id))) Wrong
+  toldFrom j s d o = pick (essentialKnown f (drop j (associationsOf f id)) && goodBehind s (drop j (typesOf f id)))
+      (sizesBehind s d o (drop j (boxesOf f id))) Wrong
 
   pub told-all : (d o : Size) → toldSizes f id ≡ toldFrom 0 false d o
   unfolding toldSizes toldFrom
@@ -44,7 +45,11 @@ module _ (f : File) (id : ℕ) where
   pub told-end : (j : ℕ) (s : Bool) (d o : Size) → length (associationsOf f id) ≤ j → toldFrom j s d o ≡ pick s (Are d o) Wrong
   unfolding toldFrom pick
   told-end j true d o h =
-      rw (essential-none f (associationsOf f id) j h, good-end (typesOf f id) j true (omega (arith, types-many f id)), sizes-end d o (boxesOf f id) j (omega (arith, boxes-many f id)))
+      rw (
+        essential-none f (associationsOf f id) j h,
+        good-end (typesOf f id) j true (omega (arith, types-many f id)),
+        sizes-end d o (boxesOf f id) j (omega (arith, boxes-many f id)),
+      )
   told-end j false d o h = rw (essential-none f (associationsOf f id) j h, good-end (typesOf f id) j false (omega (arith, types-many f id)))
 
   module _ (j : ℕ) (s : Bool) (d o : Size) where
@@ -56,7 +61,9 @@ module _ (f : File) (id : ℕ) where
     unfolding toldFrom
     told-misplaced e = pick-no (sizesBehind s d o (drop j (boxesOf f id))) Wrong (and-none (essentialKnown f (drop j (associationsOf f id))) _ e)
 
-    told-on : (t : Bool) (c p : Size) → essentialKnown f (drop j (associationsOf f id)) ≡ essentialKnown f (drop (j + 1) (associationsOf f id)) → goodBehind s (drop j (typesOf f id)) ≡ goodBehind t (drop (j + 1) (typesOf f id))
+    told-on : (t : Bool) (c p : Size) → essentialKnown f (drop j (associationsOf f id)) ≡ essentialKnown f
+        (drop (j + 1) (associationsOf f id)) → goodBehind s (drop j (typesOf f id)) ≡ goodBehind t
+        (drop (j + 1) (typesOf f id))
         → sizesBehind s d o (drop j (boxesOf f id)) ≡ sizesBehind t c p (drop (j + 1) (boxesOf f id)) → toldFrom j s d o ≡ toldFrom (j + 1) t c p
     unfolding toldFrom
     told-on t c p a b q = rw (a, b, q)
@@ -75,17 +82,23 @@ module _ {t head : List ℕ} {pl : Places} {f : File} (v : TableOf t head pl f) 
   told-early s₁ (inl a) q z = untrue (sym z ∙ a)
   told-early s₁ (inr a) q z = told-misplaced f id j s d o (rw (sym (a .1) ∙ z) (early-turn (typesOf f id) j in-types k e (a .0) q))
 
-  -- one turn of the code, where this association is none of an unknown essential property: s₁, d₁ and o₁ are what is behind an `ispe` or none, o₂ what is behind a transform or none
+  -- one turn of the code, where this association is none of an unknown essential property: s₁, d₁ and o₁ are what is
+  -- behind an `ispe` or none, o₂ what is behind a transform or none
   module _ (known : essentialKnown f (drop j (associationsOf f id)) ≡ essentialKnown f (drop (j + 1) (associationsOf f id))) (s₁ : Bool) (d₁ o₁ o₂ : Size) where
     pub told-other : (k ≡ ispe → ⊥) → s₁ ≡ s → d₁ ≡ d → o₁ ≡ o → transform k ≡ false → o₂ ≡ o₁ → toldFrom f id j s d o ≡ toldFrom f id (j + 1) s₁ d₁ o₂
-    told-other n es ed eo q et = rw (et, eo, ed, es) (told-on f id j s d o s d o known (other-type (typesOf f id) j in-types k e s n q) (sizes-skip v id j l k e s d o n q))
+    told-other n es ed eo q et = rw (et, eo, ed, es) (told-on f id j s d o s d o known
+        (other-type (typesOf f id) j in-types k e s n q) (sizes-skip v id j l k e s d o n q))
 
     -- b is the box, and c its content
     module _ (b c : List ℕ) (eb : b ≡ getD (boxesOf f id) j []) (ec : c ≡ bodyOf b) where
-      pub told-declared : (r : Size) → k ≡ ispe → s ≡ false → (12 ≤ length c → r ≡ size (beAt c 4 4) (beAt c 8 4)) → s₁ ≡ true → d₁ ≡ r → o₁ ≡ r → o₂ ≡ o₁ → toldFrom f id j s d o ≡ toldFrom f id (j + 1) s₁ d₁ o₂
-      told-declared r i z g es ed eo et = rw (et, eo, ed, es, z) (told-on f id j false d o true r r known (first-ispe (typesOf f id) j in-types k e i) (sizes-declared v id j l k e b c eb ec d o r i g))
+      pub told-declared : (r : Size) → k ≡ ispe → s ≡ false → (12 ≤ length c → r ≡ size (beAt c 4 4) (beAt c 8 4)) →
+          s₁ ≡ true → d₁ ≡ r → o₁ ≡ r → o₂ ≡ o₁ → toldFrom f id j s d o ≡ toldFrom f id (j + 1) s₁ d₁ o₂
+      told-declared r i z g es ed eo et = rw (et, eo, ed, es, z)
+          (told-on f id j false d o true r r known (first-ispe (typesOf f id) j in-types k e i)
+          (sizes-declared v id j l k e b c eb ec d o r i g))
 
-      pub told-turned : (u : Turn) → (k ≡ ispe → ⊥) → s₁ ≡ s → d₁ ≡ d → o₁ ≡ o → transform k ≡ true → s₁ ≡ true → (Sized k c → u ≡ turnBy o₁ k c) → o₂ ≡ sizeAfter u o₁ → toldFrom f id j s d o ≡ toldFrom f id (j + 1) s₁ d₁ o₂
+      pub told-turned : (u : Turn) → (k ≡ ispe → ⊥) → s₁ ≡ s → d₁ ≡ d → o₁ ≡ o → transform k ≡ true → s₁ ≡ true →
+          (Sized k c → u ≡ turnBy o₁ k c) → o₂ ≡ sizeAfter u o₁ → toldFrom f id j s d o ≡ toldFrom f id (j + 1) s₁ d₁ o₂
       told-turned u n es ed eo q z g et =
           rw (sym es ∙ z, z, ed)
           (told-on f id j true d o true d o₂ known (sized-turn (typesOf f id) j in-types k e n)
@@ -93,7 +106,8 @@ module _ {t head : List ℕ} {pl : Places} {f : File} (v : TableOf t head pl f) 
 
 -- the code's value
 abbrev pub Says : File → ℕ → SizesRead → Type 0
-Says f id (Are d o) = ((essentialKnown f (associationsOf f id) && goodIspe (typesOf f id)) ≡ true) × (d ≡ declaredIn (boxesOf f id)) × (o ≡ through d (boxesOf f id))
+Says f id (Are d o) = ((essentialKnown f (associationsOf f id) && goodIspe (typesOf f id)) ≡ true) ×
+    (d ≡ declaredIn (boxesOf f id)) × (o ≡ through d (boxesOf f id))
 Says f id Wrong = (essentialKnown f (associationsOf f id) && goodIspe (typesOf f id)) ≡ false
 
 pub says : (f : File) (id : ℕ) (x y : SizesRead) → x ≡ toldSizes f id → x ≡ y → Says f id y

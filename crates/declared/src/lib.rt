@@ -77,21 +77,26 @@ pub fn is_known(kind: u32) -> bool
 
 // How many properties an item is associated with.
 pub fn property_count(table: &[u32], row: ItemRow) -> usize
-    ensures { λ r. ⌜ ((head : List ℕ) (pl : Places) (f : File) → TableOf (now (table .entry)) head pl f → row .0 < length (f .items) → r ≡ length (associationsOf f (idOf f (row .0)))) ⌝ }
+    ensures { λ r. ⌜ ((head : List ℕ) (pl : Places) (f : File) → TableOf (now (table .entry)) head pl f →
+        row .0 < length (f .items) → r ≡ length (associationsOf f (idOf f (row .0)))) ⌝ }
 {
     views::record_word(table, row, 4) as usize
 }
 
 // The type of the property that an item's association with a number from 0 names, 0 where it names nothing.
 pub fn kind_of(table: &[u32], row: ItemRow, j: usize) -> u32
-    ensures { λ r. ⌜ ((head : List ℕ) (pl : Places) (f : File) → TableOf (now (table .entry)) head pl f → row .0 < length (f .items) → j < length (associationsOf f (idOf f (row .0))) → r ≡ getD (typesOf f (idOf f (row .0))) j 0) ⌝ }
+    ensures { λ r. ⌜ ((head : List ℕ) (pl : Places) (f : File) → TableOf (now (table .entry)) head pl f →
+        row .0 < length (f .items) → j < length (associationsOf f (idOf f (row .0))) →
+        r ≡ getD (typesOf f (idOf f (row .0))) j 0) ⌝ }
 {
     views::property_type(table, views::index_of(views::association_of(table, row, j)))
 }
 
 // The property box itself, as a part of the head.
 pub fn box_of<'a>(head: &'a [u8], table: &[u32], row: ItemRow, j: usize) -> &'a [u8]
-    ensures { λ r. ⌜ ((pl : Places) (f : File) → TableOf (now (table .entry)) (now (head .entry)) pl f → row .0 < length (f .items) → j < length (associationsOf f (idOf f (row .0))) → now r ≡ getD (boxesOf f (idOf f (row .0))) j []) ⌝ }
+    ensures { λ r. ⌜ ((pl : Places) (f : File) → TableOf (now (table .entry)) (now (head .entry)) pl f →
+        row .0 < length (f .items) → j < length (associationsOf f (idOf f (row .0))) →
+        now r ≡ getD (boxesOf f (idOf f (row .0))) j []) ⌝ }
 {
     views::property_box(
         head,
@@ -102,7 +107,8 @@ pub fn box_of<'a>(head: &'a [u8], table: &[u32], row: ItemRow, j: usize) -> &'a 
 
 // Whether every essential property of an item is of a known type.
 fn essentials_known(table: &[u32], row: ItemRow) -> bool
-    ensures { λ r. ⌜ ((head : List ℕ) (pl : Places) (f : File) → TableOf (now (table .entry)) head pl f → row .0 < length (f .items) → r ≡ essentialKnown f (associationsOf f (idOf f (row .0)))) ⌝ }
+    ensures { λ r. ⌜ ((head : List ℕ) (pl : Places) (f : File) → TableOf (now (table .entry)) head pl f →
+        row .0 < length (f .items) → r ≡ essentialKnown f (associationsOf f (idOf f (row .0)))) ⌝ }
 {
     let n = property_count(table, row);
     let mut j: usize = 0;
@@ -119,14 +125,17 @@ fn essentials_known(table: &[u32], row: ItemRow) -> bool
 
 // 15 before 16 for the properties of a picture that break one of the two.
 pub fn properties_fault(table: &[u32], row: ItemRow) -> u32
-    ensures { λ r. ⌜ ((head : List ℕ) (pl : Places) (f : File) → TableOf (now (table .entry)) head pl f → row .0 < length (f .items) → r ≡ pick (essentialKnown f (associationsOf f (idOf f (row .0)))) 16 15) ⌝ }
+    ensures { λ r. ⌜ ((head : List ℕ) (pl : Places) (f : File) → TableOf (now (table .entry)) head pl f →
+        row .0 < length (f .items) → r ≡ pick (essentialKnown f (associationsOf f (idOf f (row .0)))) 16 15) ⌝ }
 {
     if essentials_known(table, row) { 16 } else { 15 }
 }
 
 // Whether two items have the same associations in the same order.
 pub fn is_alike(table: &[u32], row: ItemRow, other: ItemRow) -> bool
-    ensures { λ r. ⌜ ((head : List ℕ) (pl : Places) (f : File) → TableOf (now (table .entry)) head pl f → row .0 < length (f .items) → other .0 < length (f .items) → r ≡ true → associationsOf f (idOf f (row .0)) ≡ associationsOf f (idOf f (other .0))) ⌝ }
+    ensures { λ r. ⌜ ((head : List ℕ) (pl : Places) (f : File) → TableOf (now (table .entry)) head pl f →
+        row .0 < length (f .items) → other .0 < length (f .items) → r ≡ true →
+        associationsOf f (idOf f (row .0)) ≡ associationsOf f (idOf f (other .0))) ⌝ }
 {
     let n = property_count(table, row);
     if n != property_count(table, other) {
@@ -163,7 +172,8 @@ pub enum SizesRead {
 
 // The sizes of a picture, in one pass over its properties: each essential one known, one `ispe`, and that before all transforms.
 pub fn read_sizes(head: &[u8], table: &[u32], row: ItemRow) -> SizesRead
-    ensures { λ r. ⌜ ((pl : Places) (f : File) → TableOf (now (table .entry)) (now (head .entry)) pl f → row .0 < length (f .items) → r ≡ toldSizes f (idOf f (row .0))) ⌝ }
+    ensures { λ r. ⌜ ((pl : Places) (f : File) → TableOf (now (table .entry)) (now (head .entry)) pl f →
+        row .0 < length (f .items) → r ≡ toldSizes f (idOf f (row .0))) ⌝ }
 {
     let n = property_count(table, row);
     let mut sized = false;

@@ -9,7 +9,7 @@ use lib.ListN.{length}
 use lib.Dec.{leb, ltb}
 use borrow.Author.Tests.{leb-true, leb-false, ltb-true, lt-ltb, le-ltb, lt-leb, not-false}
 use Rattle.fields.specs.Lists.{member}
-use Rattle.fields.proofs.TestLaws.{untrue, both-and, and-none}
+use Rattle.fields.proofs.TestLaws.{untrue, and-both, both-and, and-none}
 use Rattle.boxes.specs.Answer.{Answer, ok, refuse, check, _>>=_, _>>_}
 use Rattle.boxes.specs.Types.{image, clap}
 use Rattle.boxes.proofs.AnswerLaws.{ok-bind, then-ok, ok-then, check-ok, ok-check, ok-inj, bind-assoc, bind-refuse}
@@ -22,12 +22,33 @@ use Rattle.pictures.specs.Scene.{Picture, Scene, pictureAt, outputOf}
 use Rattle.pictures.specs.Sources.{sources}
 use Rattle.rules.specs.Joined.{associationsOf, typesOf, rowOf, itemAt}
 use Rattle.rules.specs.Places.{Places}
-use Rattle.rules.specs.Questions.{listed, pictured, sizeIn, traceIn, sourcesIn, propertyIn}
+use Rattle.rules.specs.Opening.{listed, pictured}
+use Rattle.questions.specs.Questions.{sizeIn, traceIn, sourcesIn, propertyIn}
 use Rattle.facing.specs.Orientation.{orientationIn, transformsIn}
-use Rattle.demands.specs.Call.{IsListed, IsPicture, shownAs, SizeUnmet, unlisted, opaque, TraceUnmet, not-shown, outside, SourcesUnmet, not-derived, too-short, PropertyUnmet, not-listed, no-such, OrientationUnmet, no-picture, cropped}
+use Rattle.demands.specs.Call.{
+  IsListed,
+  IsPicture,
+  shownAs,
+  SizeUnmet,
+  unlisted,
+  opaque,
+  TraceUnmet,
+  not-shown,
+  outside,
+  SourcesUnmet,
+  not-derived,
+  too-short,
+  PropertyUnmet,
+  not-listed,
+  no-such,
+  OrientationUnmet,
+  no-picture,
+  cropped,
+}
 
 -- check, then more: the refusal is the test's, or that of what follows
-check-then : {A : Type 0} (n p : ℕ) (t : Bool) (m : Answer A) (a b : ℕ) → (check n p t >> m) ≡ refuse a b → ((a ≡ n) × (b ≡ p) × (t ≡ false)) ⊎ ((t ≡ true) × (m ≡ refuse a b))
+check-then : {A : Type 0} (n p : ℕ) (t : Bool) (m : Answer A) (a b : ℕ) → (check n p t >> m) ≡ refuse a b →
+    ((a ≡ n) × (b ≡ p) × (t ≡ false)) ⊎ ((t ≡ true) × (m ≡ refuse a b))
 unfolding check _>>_
 check-then n p true m a b e = inr (refl, e)
 check-then n p false m a b e = inl ((cc), (cc), refl)
@@ -40,7 +61,8 @@ fails : (a b : Bool) → (a && b) ≡ false → (a ≡ false) ⊎ (b ≡ false)
 fails true b e = inr e
 fails false b e = inl refl
 
-check-bind : {A B : Type 0} (n p : ℕ) (t : Bool) (x : A) (k : A → Answer B) (a b : ℕ) → ((check n p t >> ok x) >>= k) ≡ refuse a b → ((a ≡ n) × (b ≡ p) × (t ≡ false)) ⊎ ((t ≡ true) × (k x ≡ refuse a b))
+check-bind : {A B : Type 0} (n p : ℕ) (t : Bool) (x : A) (k : A → Answer B) (a b : ℕ) →
+    ((check n p t >> ok x) >>= k) ≡ refuse a b → ((a ≡ n) × (b ≡ p) × (t ≡ false)) ⊎ ((t ≡ true) × (k x ≡ refuse a b))
 unfolding check _>>_ _>>=_
 check-bind n p true x k a b e = inr (refl, e)
 check-bind n p false x k a b e = inl ((cc), (cc), refl)
@@ -60,7 +82,9 @@ module _ (f : File) (id : ℕ) where
   unfolding listed
   listed-unmet n p e = by (check-then 21 id _ _ n p e)
     where
-      by : ((n ≡ 21) × (p ≡ id) × (member id (idsOf (f .items)) ≡ false)) ⊎ ((member id (idsOf (f .items)) ≡ true) × (ok (rowOf id (f .items)) ≡ refuse n p)) → (n ≡ 21) × (p ≡ id) × (member id (idsOf (f .items)) ≡ false)
+      by : ((n ≡ 21) × (p ≡ id) × (member id (idsOf (f .items)) ≡ false)) ⊎
+          ((member id (idsOf (f .items)) ≡ true) × (ok (rowOf id (f .items)) ≡ refuse n p)) → (n ≡ 21) × (p ≡ id) ×
+          (member id (idsOf (f .items)) ≡ false)
       by (inl x) = x
       by (inr x) = never _ n p (x .1)
 
@@ -69,22 +93,32 @@ module _ (f : File) (id : ℕ) where
   listed-ok r e = let x = then-ok _ _ r e in (check-ok 21 id _ (x .0) (x .1), ok-inj _ _ (x .2))
 
   -- a question of a listed item
-  listed-or : {A : Type 0} (k : ℕ → Answer A) (n p : ℕ) → (listed f id >>= k) ≡ refuse n p → ((n ≡ 21) × (p ≡ id) × (member id (idsOf (f .items)) ≡ false)) ⊎ (IsListed f id × (k (rowOf id (f .items)) ≡ refuse n p))
+  listed-or : {A : Type 0} (k : ℕ → Answer A) (n p : ℕ) → (listed f id >>= k) ≡ refuse n p →
+      ((n ≡ 21) × (p ≡ id) × (member id (idsOf (f .items)) ≡ false)) ⊎
+      (IsListed f id × (k (rowOf id (f .items)) ≡ refuse n p))
   listed-or {A} k n p e = by (bind-refuse (listed f id) k n p e)
     where
-      by : (listed f id ≡ refuse n p) ⊎ ((r : ℕ) × (listed f id ≡ ok r) × (k r ≡ refuse n p)) → ((n ≡ 21) × (p ≡ id) × (member id (idsOf (f .items)) ≡ false)) ⊎ (IsListed f id × (k (rowOf id (f .items)) ≡ refuse n p))
+      by : (listed f id ≡ refuse n p) ⊎ ((r : ℕ) × (listed f id ≡ ok r) × (k r ≡ refuse n p)) →
+          ((n ≡ 21) × (p ≡ id) × (member id (idsOf (f .items)) ≡ false)) ⊎
+          (IsListed f id × (k (rowOf id (f .items)) ≡ refuse n p))
       by (inl x) = inl (listed-unmet n p x)
       by (inr (r, x, y)) = let z = listed-ok r x in inr (z .0, ap k (z .1) ∙ y)
 
-  pictured-or : {A : Type 0} (k : ℕ → Answer A) (n p : ℕ) → (pictured f id >>= k) ≡ refuse n p → (SizeUnmet f id n × (p ≡ id)) ⊎ (IsPicture f id × (k (rowOf id (f .items)) ≡ refuse n p))
+  pictured-or : {A : Type 0} (k : ℕ → Answer A) (n p : ℕ) → (pictured f id >>= k) ≡ refuse n p →
+      (SizeUnmet f id n × (p ≡ id)) ⊎ (IsPicture f id × (k (rowOf id (f .items)) ≡ refuse n p))
   unfolding pictured
   pictured-or {A} k n p e = by (listed-or _ n p (sym (bind-assoc (listed f id) _ k) ∙ e))
     where
-      next : IsListed f id → ((n ≡ 22) × (p ≡ id) × (image (itemAt f (rowOf id (f .items)) .type) ≡ false)) ⊎ ((image (itemAt f (rowOf id (f .items)) .type) ≡ true) × (k (rowOf id (f .items)) ≡ refuse n p)) → (SizeUnmet f id n × (p ≡ id)) ⊎ (IsPicture f id × (k (rowOf id (f .items)) ≡ refuse n p))
+      next : IsListed f id → ((n ≡ 22) × (p ≡ id) × (image (itemAt f (rowOf id (f .items)) .type) ≡ false)) ⊎
+          ((image (itemAt f (rowOf id (f .items)) .type) ≡ true) × (k (rowOf id (f .items)) ≡ refuse n p)) →
+          (SizeUnmet f id n × (p ≡ id)) ⊎ (IsPicture f id × (k (rowOf id (f .items)) ≡ refuse n p))
       next l (inl x) = inl (opaque (x .0) l (x .2), x .1)
       next l (inr x) = inr ((l, x .0), x .1)
 
-      by : ((n ≡ 21) × (p ≡ id) × (member id (idsOf (f .items)) ≡ false)) ⊎ (IsListed f id × (((check 22 id (image (itemAt f (rowOf id (f .items)) .type)) >> ok (rowOf id (f .items))) >>= k) ≡ refuse n p)) → (SizeUnmet f id n × (p ≡ id)) ⊎ (IsPicture f id × (k (rowOf id (f .items)) ≡ refuse n p))
+      by : ((n ≡ 21) × (p ≡ id) × (member id (idsOf (f .items)) ≡ false)) ⊎
+          (IsListed f id × (((check 22 id (image (itemAt f (rowOf id (f .items)) .type)) >> ok (rowOf id (f .items)))
+          >>= k) ≡ refuse n p)) → (SizeUnmet f id n × (p ≡ id)) ⊎ (IsPicture f id ×
+          (k (rowOf id (f .items)) ≡ refuse n p))
       by (inl x) = inl (unlisted (x .0) (x .2), x .1)
       by (inr x) = next (x .0) (check-bind 22 id _ (rowOf id (f .items)) k n p (x .1))
 
@@ -103,7 +137,10 @@ module _ (f : File) (id : ℕ) where
       beyond : (ltb (q .x) (z .wide) && ltb (q .y) (z .high)) ≡ false → Inside z q → ⊥
       beyond e i = untrue (sym e ∙ both-and _ _ (lt-ltb _ _ (i .in-x)) (lt-ltb _ _ (i .in-y)))
 
-      last : {A : Type 0} {a : A} → IsPicture f id → ((n ≡ 23) × (p ≡ id) × ((ltb (q .x) (z .wide) && ltb (q .y) (z .high)) ≡ false)) ⊎ (((ltb (q .x) (z .wide) && ltb (q .y) (z .high)) ≡ true) × (ok a ≡ refuse n p)) → TraceUnmet s f id q n × (p ≡ id)
+      last : {A : Type 0} {a : A} → IsPicture f id → ((n ≡ 23) × (p ≡ id) ×
+          ((ltb (q .x) (z .wide) && ltb (q .y) (z .high)) ≡ false)) ⊎
+          (((ltb (q .x) (z .wide) && ltb (q .y) (z .high)) ≡ true) × (ok a ≡ refuse n p)) → TraceUnmet s f id q n ×
+          (p ≡ id)
       last i (inl x) = (outside (x .0) i (beyond (x .2)), x .1)
       last i (inr x) = never _ n p (x .1)
 
@@ -111,7 +148,10 @@ module _ (f : File) (id : ℕ) where
   unfolding sourcesIn
   sources-unmet s room n p e = elim (pictured-or _ n p e) [ inl x ↦ (not-derived (x .0), x .1) | inr x ↦ last (x .0) (check-then 24 id _ _ n p (x .1)) ]
     where
-      last : {A : Type 0} {a : A} → IsPicture f id → ((n ≡ 24) × (p ≡ id) × (leb (length (sources s (rowOf id (f .items)))) room ≡ false)) ⊎ ((leb (length (sources s (rowOf id (f .items)))) room ≡ true) × (ok a ≡ refuse n p)) → SourcesUnmet s f id room n × (p ≡ id)
+      last : {A : Type 0} {a : A} → IsPicture f id →
+          ((n ≡ 24) × (p ≡ id) × (leb (length (sources s (rowOf id (f .items)))) room ≡ false)) ⊎
+          ((leb (length (sources s (rowOf id (f .items)))) room ≡ true) × (ok a ≡ refuse n p)) →
+          SourcesUnmet s f id room n × (p ≡ id)
       last i (inl x) = (too-short (x .0) i (leb-false _ _ (x .2)), x .1)
       last i (inr x) = never _ n p (x .1)
 
@@ -123,7 +163,10 @@ module _ (f : File) (id : ℕ) where
       which (inl h) = let y = leb-false 1 k h in inl (omega arith)
       which (inr h) = inr (leb-false _ _ h)
 
-      last : {A : Type 0} {a : A} → IsListed f id → ((n ≡ 25) × (p ≡ id) × ((leb 1 k && leb k (length (associationsOf f id))) ≡ false)) ⊎ (((leb 1 k && leb k (length (associationsOf f id))) ≡ true) × (ok a ≡ refuse n p)) → PropertyUnmet f id k n × (p ≡ id)
+      last : {A : Type 0} {a : A} → IsListed f id → ((n ≡ 25) × (p ≡ id) ×
+          ((leb 1 k && leb k (length (associationsOf f id))) ≡ false)) ⊎
+          (((leb 1 k && leb k (length (associationsOf f id))) ≡ true) × (ok a ≡ refuse n p)) → PropertyUnmet f id k n ×
+          (p ≡ id)
       last i (inl x) = (no-such (x .0) i (which (fails (leb 1 k) _ (x .2))), x .1)
       last i (inr x) = never _ n p (x .1)
 
@@ -131,9 +174,68 @@ module _ (f : File) (id : ℕ) where
   unfolding orientationIn
   orientation-unmet s n p e = elim (pictured-or _ n p e) [ inl x ↦ (no-picture (x .0), x .1) | inr x ↦ last (x .0) (check-then 26 id _ _ n p (x .1)) ]
     where
-      last : {A : Type 0} {a : A} → IsPicture f id → ((n ≡ 26) × (p ≡ id) × (not (member clap (typesOf f id)) ≡ false)) ⊎ ((not (member clap (typesOf f id)) ≡ true) × (ok a ≡ refuse n p)) → OrientationUnmet f id n × (p ≡ id)
+      last : {A : Type 0} {a : A} → IsPicture f id → ((n ≡ 26) × (p ≡ id) × (not (member clap (typesOf f id)) ≡ false))
+          ⊎ ((not (member clap (typesOf f id)) ≡ true) × (ok a ≡ refuse n p)) → OrientationUnmet f id n × (p ≡ id)
       last i (inl x) = (cropped (x .0) i (not-false _ (x .2)), x .1)
       last i (inr x) = never _ n p (x .1)
+
+-- The other way: what is unmet refuses.
+module _ (f : File) (id : ℕ) where
+  listed-off : member id (idsOf (f .items)) ≡ false → listed f id ≡ refuse 21 id
+  unfolding listed check _>>_
+  listed-off e = rw e
+
+  pictured-off : (n : ℕ) → SizeUnmet f id n → pictured f id ≡ refuse n id
+  unfolding pictured _>>=_ check _>>_
+  pictured-off n (unlisted q e) = rw (q, listed-off e)
+  pictured-off n (opaque q l e) = rw (q, listed-is f id l, e)
+
+  -- a question of a picture
+  picture-off : {A : Type 0} (k : ℕ → Answer A) (n p : ℕ) → SizeUnmet f id n → p ≡ id → (pictured f id >>= k) ≡ refuse n p
+  unfolding _>>=_
+  picture-off k n p u e = rw (pictured-off n u, e)
+
+  -- whose last test fails
+  picture-last : {A : Type 0} (m n p : ℕ) (t : ℕ → Bool) (k : ℕ → Answer A) → IsPicture f id → n ≡ m → p ≡ id →
+      t (rowOf id (f .items)) ≡ false → (pictured f id >>= (λ r. check m id (t r) >> k r)) ≡ refuse n p
+  unfolding _>>=_ check _>>_
+  picture-last m n p t k i q e h = rw (pictured-is f id i, h, q, e)
+
+  pub size-off : (s : Scene) (n p : ℕ) → SizeUnmet f id n × (p ≡ id) → sizeIn s f id ≡ refuse n p
+  unfolding sizeIn
+  size-off s n p u = picture-off _ n p (u .0) (u .1)
+
+  pub trace-off : (s : Scene) (q : Point) (n p : ℕ) → TraceUnmet s f id q n × (p ≡ id) → traceIn s f id q ≡ refuse n p
+  unfolding traceIn
+  trace-off s q n p (not-shown u, e) = picture-off _ n p u e
+  trace-off s q n p (outside i w o, e) = picture-last 23 n p _ _ w i e (by _ refl)
+    where
+      z : Size
+      z = outputOf (shownAs s f id)
+
+      by : (t : Bool) → (ltb (q .x) (z .wide) && ltb (q .y) (z .high)) ≡ t → (ltb (q .x) (z .wide) && ltb (q .y) (z .high)) ≡ false
+      by false h = h
+      by true h = let b = and-both _ _ h in
+          absurd (o (record { in-x = ltb-true (q .x) (z .wide) (b .0); in-y = ltb-true (q .y) (z .high) (b .1) }))
+
+  pub sources-off : (s : Scene) (room n p : ℕ) → SourcesUnmet s f id room n × (p ≡ id) → sourcesIn s f id room ≡ refuse n p
+  unfolding sourcesIn
+  sources-off s room n p (not-derived u, e) = picture-off _ n p u e
+  sources-off s room n p (too-short i w l, e) = picture-last 24 n p _ _ w i e (lt-leb _ _ l)
+
+  pub orientation-off : (s : Scene) (n p : ℕ) → OrientationUnmet f id n × (p ≡ id) → orientationIn s f id ≡ refuse n p
+  unfolding orientationIn
+  orientation-off s n p (no-picture u, e) = picture-off _ n p u e
+  orientation-off s n p (cropped i w c, e) = picture-last 26 n p _ _ w i e (ap not c)
+
+  pub property-off : (pl : Places) (k n p : ℕ) → PropertyUnmet f id k n × (p ≡ id) → propertyIn pl f id k ≡ refuse n p
+  unfolding propertyIn _>>=_ check _>>_
+  property-off pl k n p (not-listed i m, e) = rw (i, listed-off m, e)
+  property-off pl k n p (no-such i l w, e) = rw (i, listed-is f id l, test w, e)
+    where
+      test : (k ≡ 0) ⊎ (length (associationsOf f id) < k) → (leb 1 k && leb k (length (associationsOf f id))) ≡ false
+      test (inl h) = rw (lt-leb 1 k (omega arith))
+      test (inr h) = and-none (leb 1 k) (leb k (length (associationsOf f id))) (lt-leb k (length (associationsOf f id)) h)
 
 -- transformsIn: "27, orientation not 1 to 8, the only check in that call"
 module _ (k : ℕ) where
@@ -145,7 +247,8 @@ module _ (k : ℕ) where
       which (inl h) = let y = leb-false 1 k h in inl (omega arith)
       which (inr h) = inr (leb-false k 8 h)
 
-      by : {A : Type 0} {a : A} → ((n ≡ 27) × (p ≡ 0) × ((leb 1 k && leb k 8) ≡ false)) ⊎ (((leb 1 k && leb k 8) ≡ true) × (ok a ≡ refuse n p)) → (n ≡ 27) × (p ≡ 0) × ((k ≡ 0) ⊎ (8 < k))
+      by : {A : Type 0} {a : A} → ((n ≡ 27) × (p ≡ 0) × ((leb 1 k && leb k 8) ≡ false)) ⊎
+          (((leb 1 k && leb k 8) ≡ true) × (ok a ≡ refuse n p)) → (n ≡ 27) × (p ≡ 0) × ((k ≡ 0) ⊎ (8 < k))
       by (inl x) = (x .0, x .1, which (fails (leb 1 k) _ (x .2)))
       by (inr x) = never _ n p (x .1)
 

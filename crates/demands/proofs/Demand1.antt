@@ -1,10 +1,12 @@
--- Demand 1, of every question: what a refusal returns and leaves, and that nothing of what the table held is in any answer. That each call comes back for all heads, totals, tables and lists is what `rt` proves of the functions themselves: none of them has a `requires`. Assumes nothing.
+-- Demand 1, of every question: what a refusal returns and leaves, and that nothing of what the table held is in any
+-- answer. That each call comes back for all heads, totals, tables and lists is what `rt` proves of the functions
+-- themselves: none of them has a `requires`. Assumes nothing.
 --   size-refused, ..   a refused call: why, its number and place, and what it leaves
 --   size-same, ..      two calls on one file with any two tables of sufficient length
 use Prim.Native.Nat.{ℕ, _≤_, _<_}
 use native.Mathlib.Omega.{arith}
 use mathlib.Core.Path.{_≡_, refl, sym, ap, _∙_}
-use mathlib.Core.List.{List, [], _++_, append-nil}
+use mathlib.Core.List.{List, [], _∷_, _++_, append-nil}
 use mathlib.Core.Bool.{Bool, true, false}
 use mathlib.Core.Logic.{_⊎_, inl, inr}
 use lib.ListN.{length, take, drop, replicate, length-replicate}
@@ -21,21 +23,26 @@ use Rattle.pictures.specs.declared.Point.{Point}
 use Rattle.rules.specs.Derivations.{sceneOf}
 use Rattle.rules.specs.Places.{placesIn}
 use Rattle.rules.specs.Words.{wordsOf}
-use Rattle.rules.specs.Questions.{accepted, opened, verdictIn, sizeIn, traceIn, sourcesIn, propertyIn, listAfter, leftBy, after}
-use Rattle.rules.specs.Questions as Q
+use Rattle.rules.specs.Opening.{accepted, opened, leftBy, after}
+use Rattle.questions.specs.Questions.{verdictIn, sizeIn, traceIn, sourcesIn, propertyIn, listAfter}
+use Rattle.questions.specs.Questions as Q
 use Rattle.views.proofs.ViewLaws.{words-view}
-use Rattle.still.specs.declared.FileVerdict.{FileVerdict}
-use Rattle.still.specs.declared.FileVerdict.the-variants as verdict
-use Rattle.still.specs.declared.Sized.{Sized}
-use Rattle.still.specs.declared.Sized.the-variants as sized
-use Rattle.still.specs.declared.Traced.{Traced}
-use Rattle.still.specs.declared.Traced.the-variants as traced
-use Rattle.still.specs.declared.Listed.{Listed}
-use Rattle.still.specs.declared.Listed.the-variants as listed
-use Rattle.still.specs.declared.Oriented.{Oriented}
-use Rattle.still.specs.declared.Oriented.the-variants as oriented
+use Rattle.asked.specs.declared.FileVerdict.{FileVerdict}
+use Rattle.asked.specs.declared.FileVerdict.the-variants as verdict
+use Rattle.asked.specs.declared.Sized.{Sized}
+use Rattle.asked.specs.declared.Sized.the-variants as sized
+use Rattle.traced.specs.declared.Traced.{Traced}
+use Rattle.traced.specs.declared.Traced.the-variants as traced
+use Rattle.sourced.specs.declared.Listed.{Listed}
+use Rattle.sourced.specs.declared.Listed.the-variants as listed
+use Rattle.facing.specs.declared.Oriented.{Oriented}
+use Rattle.facing.specs.declared.Oriented.the-variants as oriented
 use Rattle.facing.specs.Orientation.{orientation}
-use Rattle.still.specs.Told.{toldVerdict, toldSized, toldFound, toldTraced, toldListed, toldOriented, toldPart, toldFault, toldBy}
+use Rattle.asked.specs.Told.{toldVerdict, toldSized}
+use Rattle.traced.specs.Told.{toldFound, toldTraced}
+use Rattle.sourced.specs.Told.{toldListed}
+use Rattle.facing.specs.Told.{toldOriented}
+use Rattle.still.specs.Told.{toldPart, toldFault}
 use Rattle.still.specs.Given.{VerdictGiven, SizeGiven, TraceGiven, SourcesGiven, OrientationGiven, PropertyGiven}
 use Rattle.faults.proofs.GoodLaws.{accepted-good, refused-first}
 use Rattle.demands.specs.Call.{SizeUnmet, TraceUnmet, SourcesUnmet, PropertyUnmet, OrientationUnmet, Call, short, bad, unmet}
@@ -48,47 +55,72 @@ never x n p e = let z : _≡_ {A = ℕ} 0 1 = cc in absurd (omega arith)
 module _ (head : List ℕ) (total : ℕ) where
   -- a question is what reading and judging give, then what is asked of the file
   module _ (table left : List ℕ) (is : left ≡ after total head table) where
-    refused-call : {A : Type 0} (k : File → Answer A) (Unmet : File → ℕ → ℕ → Type 0) → ((f : File) (n p : ℕ) → k f ≡ refuse n p → Unmet f n p) → (n p : ℕ) → (opened (length table) total head >>= k) ≡ refuse n p → Call head total table Unmet n p left
+    pub refused-call : {A : Type 0} (k : File → Answer A) (Unmet : File → ℕ → ℕ → Type 0) →
+        ((f : File) (n p : ℕ) → k f ≡ refuse n p → Unmet f n p) → (n p : ℕ) →
+        (opened (length table) total head >>= k) ≡ refuse n p → Call head total table Unmet n p left
     unfolding opened after leftBy check _>>=_ _>>_ pick
     refused-call k Unmet h n p e = by (leb 11280 (length table)) refl (accepted total head) refl is e
       where
-        by : (t : Bool) → leb 11280 (length table) ≡ t → (m : Answer File) → accepted total head ≡ m → left ≡ pick t (leftBy total head table m) table → ((check 1 0 t >> m) >>= k) ≡ refuse n p → Call head total table Unmet n p left
+        by : (t : Bool) → leb 11280 (length table) ≡ t → (m : Answer File) → accepted total head ≡ m →
+            left ≡ pick t (leftBy total head table m) table → ((check 1 0 t >> m) >>= k) ≡ refuse n p →
+            Call head total table Unmet n p left
         by false q m a l e = short (leb-false _ _ q) (cc) (cc) l
-        by true q (refuse i j) a l e = let x : i ≡ n = cc in let y : j ≡ p = cc in bad (leb-true _ _ q) (refused-first total head n p (a ∙ ap (λ (i : ℕ). refuse i j) x ∙ ap (refuse n) y)) l
+        by true q (refuse i j) a l e = let x : i ≡ n = cc in let y : j ≡ p = cc in
+            bad (leb-true _ _ q) (refused-first total head n p (a ∙ ap (λ (i : ℕ). refuse i j) x ∙ ap (refuse n) y)) l
         by true q (ok f) a l e = unmet (leb-true _ _ q) f (accepted-good total head f a) (h f n p e) l
 
   module _ (table left : List ℕ) (y : Refusal) where
     pub verdict-refused : VerdictGiven head total table (verdict.Refused y) left → Call head total table (λ f n p. ⊥) (y .number) (y .place) left
     unfolding Q.verdict verdictIn
-    verdict-refused g = refused-call table left (g .1) verdictIn _ (λ f n p e. never _ n p e) _ _ (verdict-told (Q.verdict (length table) total head) y (sym (g .0)))
+    verdict-refused g = refused-call table left (g .1) verdictIn _ (λ f n p e. never _ n p e) _ _
+        (verdict-told (Q.verdict (length table) total head) y (sym (g .0)))
 
-    pub size-refused : (id : ℕ) → SizeGiven head total table id (sized.Refused y) left → Call head total table (λ f n p. SizeUnmet f id n × (p ≡ id)) (y .number) (y .place) left
+    pub size-refused : (id : ℕ) → SizeGiven head total table id (sized.Refused y) left →
+        Call head total table (λ f n p. SizeUnmet f id n × (p ≡ id)) (y .number) (y .place) left
     unfolding Q.size
-    size-refused id g = refused-call table left (g .1) _ _ (λ f n p e. size-unmet f id (sceneOf total head f) n p e) _ _ (size-told (Q.size (length table) total head id) y (sym (g .0)))
+    size-refused id g = refused-call table left (g .1) _ _ (λ f n p e. size-unmet f id (sceneOf total head f) n p e) _ _
+        (size-told (Q.size (length table) total head id) y (sym (g .0)))
 
-    pub trace-refused : (id : ℕ) (q : Point) → TraceGiven head total table id q (traced.Refused y) left → Call head total table (λ f n p. TraceUnmet (sceneOf total head f) f id q n × (p ≡ id)) (y .number) (y .place) left
+    pub trace-refused : (id : ℕ) (q : Point) → TraceGiven head total table id q (traced.Refused y) left →
+        Call head total table (λ f n p. TraceUnmet (sceneOf total head f) f id q n × (p ≡ id)) (y .number) (y .place)
+        left
     unfolding Q.trace
-    trace-refused id q g = refused-call table left (g .1) _ _ (λ f n p e. trace-unmet f id (sceneOf total head f) q n p e) _ _ (trace-told (Q.trace (length table) total head id q) y (sym (g .0)))
+    trace-refused id q g = refused-call table left (g .1) _ _ (λ f n p e. trace-unmet f id (sceneOf total head f) q n p
+        e) _ _ (trace-told (Q.trace (length table) total head id q) y (sym (g .0)))
 
-    pub orientation-refused : (id : ℕ) → OrientationGiven head total table id (oriented.Refused y) left → Call head total table (λ f n p. OrientationUnmet f id n × (p ≡ id)) (y .number) (y .place) left
+    pub orientation-refused : (id : ℕ) → OrientationGiven head total table id (oriented.Refused y) left →
+        Call head total table (λ f n p. OrientationUnmet f id n × (p ≡ id)) (y .number) (y .place) left
     unfolding orientation
-    orientation-refused id g = refused-call table left (g .1) _ _ (λ f n p e. orientation-unmet f id (sceneOf total head f) n p e) _ _ (orientation-told (orientation (length table) total head id) y (sym (g .0)))
+    orientation-refused id g = refused-call table left (g .1) _ _
+        (λ f n p e. orientation-unmet f id (sceneOf total head f) n p e) _ _
+        (orientation-told (orientation (length table) total head id) y (sym (g .0)))
 
     -- the list is as it was
-    pub sources-refused : (id : ℕ) (list list-left : List ℕ) → SourcesGiven head total table id list (listed.Refused y) list-left left → Call head total table (λ f n p. SourcesUnmet (sceneOf total head f) f id (length list) n × (p ≡ id)) (y .number) (y .place) left × (list-left ≡ list)
+    pub sources-refused : (id : ℕ) (list list-left : List ℕ) →
+        SourcesGiven head total table id list (listed.Refused y) list-left left →
+        Call head total table (λ f n p. SourcesUnmet (sceneOf total head f) f id (length list) n × (p ≡ id)) (y .number)
+        (y .place) left × (list-left ≡ list)
     unfolding Q.sources listAfter
     sources-refused id list list-left g =
-        let e = sources-told (Q.sources (length table) total head id (length list)) y (sym (g .0)) in
-        (refused-call table left (g .1 .1) _ _ (λ f n p e. sources-unmet f id (sceneOf total head f) (length list) n p e) _ _ e, g .1 .0 ∙ ap (λ (m : Answer (List ℕ)). listAfter m list) e)
+        let e = sources-told (Q.sources (length table) total head id (length list)) y (sym (g .0)) in (
+          refused-call table left (g .1 .1) _ _ (λ f n p e. sources-unmet f id (sceneOf total head f) (length list) n p
+              e) _ _ e,
+          g .1 .0 ∙ ap (λ (m : Answer (List ℕ)). listAfter m list) e,
+        )
 
-  -- property: the part is empty, and the list that was lent beside it has number and place
-  pub property-refused : (table : List ℕ) (id k : ℕ) (told part told-left left : List ℕ) → PropertyGiven head total table id k told part told-left left → (n p : ℕ) → Q.property (length table) total head id k ≡ refuse n p
-      → Call head total table (λ f n p. PropertyUnmet f id k n × (p ≡ id)) n p left × ((part ≡ []) × (told-left ≡ toldBy n p told))
+  -- property: the part is empty, and the two numbers carry the refusal
+  pub property-refused : (table : List ℕ) (id k : ℕ) (part told left : List ℕ) →
+      PropertyGiven head total table id k part told left → (n p : ℕ) →
+      Q.property (length table) total head id k ≡ refuse n p
+      → Call head total table (λ f n p. PropertyUnmet f id k n × (p ≡ id)) n p left × ((part ≡ []) × (told ≡ n ∷ p ∷ []))
   unfolding Q.property toldPart toldFault
-  property-refused table id k told part told-left left g n p e =
-      (refused-call table left (g .1 .1) _ _ (λ f n p e. property-unmet f id (placesIn total head) k n p e) n p e, (g .0 ∙ ap toldPart e, g .1 .0 ∙ ap (toldFault told) e))
+  property-refused table id k part told left g n p e = (
+    refused-call table left (g .1 .1) _ _ (λ f n p e. property-unmet f id (placesIn total head) k n p e) n p e,
+    (g .0 ∙ ap toldPart e, g .1 .0 ∙ ap toldFault e),
+  )
 
-  -- Nothing left in the table by an earlier file can be seen: with tables t and u of sufficient length the answers are the same, and so are the first 11,280 words.
+  -- Nothing left in the table by an earlier file can be seen: with tables t and u of sufficient length the answers are
+  -- the same, and so are the first 11,280 words.
   module _ (few : total < 18446744073709551616) (t u : List ℕ) (enough : 11280 ≤ length t) (enough-too : 11280 ≤ length u) where
     opened-same : opened (length t) total head ≡ opened (length u) total head
     unfolding opened
@@ -107,32 +139,46 @@ module _ (head : List ℕ) (total : ℕ) where
         let w : 11280 ≤ length (replicate {A = ℕ} 11280 0) = let z = length-replicate {A = ℕ} 11280 0 in omega arith in
         take-append-le 11280 (replicate 11280 0) (drop 11280 t) w ∙ sym (take-append-le 11280 (replicate 11280 0) (drop 11280 u) w)
 
-    after-same : (a b : List ℕ) → a ≡ after total head t → b ≡ after total head u → take 11280 a ≡ take 11280 b
+    pub after-same : (a b : List ℕ) → a ≡ after total head t → b ≡ after total head u → take 11280 a ≡ take 11280 b
     after-same a b x y = ap (take 11280) (x ∙ after-is t enough) ∙ front (accepted total head) refl ∙ sym (ap (take 11280) (y ∙ after-is u enough-too))
 
-    asked-same : {A B : Type 0} (told : Answer A → B) (k : File → Answer A) (r s : B) → r ≡ told (opened (length t) total head >>= k) → s ≡ told (opened (length u) total head >>= k) → r ≡ s
+    pub asked-same : {A B : Type 0} (told : Answer A → B) (k : File → Answer A) (r s : B) →
+        r ≡ told (opened (length t) total head >>= k) → s ≡ told (opened (length u) total head >>= k) → r ≡ s
     asked-same told k r s x y = x ∙ ap (λ (m : Answer File). told (m >>= k)) opened-same ∙ sym y
 
-    pub verdict-same : (r s : FileVerdict) (a b : List ℕ) → VerdictGiven head total t r a → VerdictGiven head total u s b → (r ≡ s) × (take 11280 a ≡ take 11280 b)
+    pub verdict-same : (r s : FileVerdict) (a b : List ℕ) → VerdictGiven head total t r a →
+        VerdictGiven head total u s b → (r ≡ s) × (take 11280 a ≡ take 11280 b)
     unfolding Q.verdict
     verdict-same r s a b x y = (asked-same toldVerdict _ r s (x .0) (y .0), after-same a b (x .1) (y .1))
 
-    pub size-same : (id : ℕ) (r s : Sized) (a b : List ℕ) → SizeGiven head total t id r a → SizeGiven head total u id s b → (r ≡ s) × (take 11280 a ≡ take 11280 b)
+    pub size-same : (id : ℕ) (r s : Sized) (a b : List ℕ) → SizeGiven head total t id r a →
+        SizeGiven head total u id s b → (r ≡ s) × (take 11280 a ≡ take 11280 b)
     unfolding Q.size
     size-same id r s a b x y = (asked-same toldSized _ r s (x .0) (y .0), after-same a b (x .1) (y .1))
 
-    pub trace-same : (id : ℕ) (p : Point) (r s : Traced) (a b : List ℕ) → TraceGiven head total t id p r a → TraceGiven head total u id p s b → (r ≡ s) × (take 11280 a ≡ take 11280 b)
+    pub trace-same : (id : ℕ) (p : Point) (r s : Traced) (a b : List ℕ) → TraceGiven head total t id p r a →
+        TraceGiven head total u id p s b → (r ≡ s) × (take 11280 a ≡ take 11280 b)
     unfolding Q.trace
     trace-same id p r s a b x y = (asked-same toldTraced _ r s (x .0) (y .0), after-same a b (x .1) (y .1))
 
-    pub sources-same : (id : ℕ) (list : List ℕ) (r s : Listed) (l m a b : List ℕ) → SourcesGiven head total t id list r l a → SourcesGiven head total u id list s m b → (r ≡ s) × ((l ≡ m) × (take 11280 a ≡ take 11280 b))
+    pub sources-same : (id : ℕ) (list : List ℕ) (r s : Listed) (l m a b : List ℕ) →
+        SourcesGiven head total t id list r l a → SourcesGiven head total u id list s m b → (r ≡ s) ×
+        ((l ≡ m) × (take 11280 a ≡ take 11280 b))
     unfolding Q.sources
-    sources-same id list r s l m a b x y = (asked-same toldListed _ r s (x .0) (y .0), (asked-same (λ z. listAfter z list) _ l m (x .1 .0) (y .1 .0), after-same a b (x .1 .1) (y .1 .1)))
+    sources-same id list r s l m a b x y = (
+      asked-same toldListed _ r s (x .0) (y .0),
+      (asked-same (λ z. listAfter z list) _ l m (x .1 .0) (y .1 .0), after-same a b (x .1 .1) (y .1 .1)),
+    )
 
-    pub property-same : (id k : ℕ) (told part same l m a b : List ℕ) → PropertyGiven head total t id k told part l a → PropertyGiven head total u id k told same m b → (part ≡ same) × ((l ≡ m) × (take 11280 a ≡ take 11280 b))
+    pub property-same : (id k : ℕ) (part same l m a b : List ℕ) → PropertyGiven head total t id k part l a →
+        PropertyGiven head total u id k same m b → (part ≡ same) × ((l ≡ m) × (take 11280 a ≡ take 11280 b))
     unfolding Q.property
-    property-same id k told part same l m a b x y = (asked-same toldPart _ part same (x .0) (y .0), (asked-same (toldFault told) _ l m (x .1 .0) (y .1 .0), after-same a b (x .1 .1) (y .1 .1)))
+    property-same id k part same l m a b x y = (
+      asked-same toldPart _ part same (x .0) (y .0),
+      (asked-same toldFault _ l m (x .1 .0) (y .1 .0), after-same a b (x .1 .1) (y .1 .1)),
+    )
 
-    pub orientation-same : (id : ℕ) (r s : Oriented) (a b : List ℕ) → OrientationGiven head total t id r a → OrientationGiven head total u id s b → (r ≡ s) × (take 11280 a ≡ take 11280 b)
+    pub orientation-same : (id : ℕ) (r s : Oriented) (a b : List ℕ) → OrientationGiven head total t id r a →
+        OrientationGiven head total u id s b → (r ≡ s) × (take 11280 a ≡ take 11280 b)
     unfolding orientation
     orientation-same id r s a b x y = (asked-same toldOriented _ r s (x .0) (y .0), after-same a b (x .1) (y .1))

@@ -1,4 +1,6 @@
--- Demand 2, of every question: a file is accepted exactly when it keeps the rules; then the table is its words and every answer is that of its structure, which is the only one; else the refusal is the first fault (Demand1, `bad`). Assumes nothing.
+-- Demand 2, of every question: a file is accepted exactly when it keeps the rules; then the table is its words and
+-- every answer is that of its structure, which is the only one; else the refusal is the first fault (Demand1, `bad`).
+-- Assumes nothing.
 use Prim.Native.Nat.{ℕ, _≤_}
 use native.Mathlib.Omega.{arith}
 use mathlib.Core.Path.{_≡_, refl, sym, ap, _∙_}
@@ -18,30 +20,40 @@ use Rattle.table.specs.declared.ItemId.{ItemId}
 use Rattle.rules.specs.Derivations.{sceneOf}
 use Rattle.rules.specs.Places.{placesIn}
 use Rattle.rules.specs.Words.{wordsOf}
-use Rattle.rules.specs.Questions.{accepted, opened, verdictIn, sizeIn, traceIn, sourcesIn, propertyIn, listAfter, leftBy, after}
-use Rattle.rules.specs.Questions as Q
-use Rattle.still.specs.declared.FileVerdict.{FileVerdict}
-use Rattle.still.specs.declared.FileVerdict.the-variants as verdict
-use Rattle.still.specs.declared.Sized.{Sized}
-use Rattle.still.specs.declared.Traced.{Traced}
-use Rattle.still.specs.declared.Listed.{Listed}
-use Rattle.still.specs.declared.Oriented.{Oriented}
+use Rattle.rules.specs.Opening.{accepted, opened, leftBy, after}
+use Rattle.questions.specs.Questions.{verdictIn, sizeIn, traceIn, sourcesIn, propertyIn, listAfter}
+use Rattle.questions.specs.Questions as Q
+use Rattle.asked.specs.declared.FileVerdict.{FileVerdict}
+use Rattle.asked.specs.declared.FileVerdict.the-variants as verdict
+use Rattle.asked.specs.declared.Sized.{Sized}
+use Rattle.traced.specs.declared.Traced.{Traced}
+use Rattle.sourced.specs.declared.Listed.{Listed}
+use Rattle.facing.specs.declared.Oriented.{Oriented}
 use Rattle.facing.specs.Orientation.{orientationIn, orientation}
-use Rattle.still.specs.Told.{toldVerdict, toldSized, toldTraced, toldListed, toldOriented, toldPart, toldFault}
+use Rattle.asked.specs.Told.{toldVerdict, toldSized}
+use Rattle.traced.specs.Told.{toldTraced}
+use Rattle.sourced.specs.Told.{toldListed}
+use Rattle.facing.specs.Told.{toldOriented}
+use Rattle.still.specs.Told.{toldPart, toldFault}
 use Rattle.still.specs.Given.{VerdictGiven, SizeGiven, TraceGiven, SourcesGiven, OrientationGiven, PropertyGiven}
 use Rattle.faults.specs.Good.{GoodFile}
 use Rattle.faults.proofs.GoodLaws.{accepted-good, good-accepted}
 
 module _ (head : List ℕ) (total : ℕ) (table : List ℕ) where
   -- `verdict` accepts only a file that keeps the rules, and tells its items and its primary item
-  pub verdict-accepts : (i : ℕ) (y : ItemId) (left : List ℕ) → VerdictGiven head total table (verdict.Accepted i y) left → (11280 ≤ length table) × ((f : File) × GoodFile total head f × (i ≡ length (f .items)) × (y .0 ≡ f .primary))
+  pub verdict-accepts : (i : ℕ) (y : ItemId) (left : List ℕ) →
+      VerdictGiven head total table (verdict.Accepted i y) left → (11280 ≤ length table) ×
+      ((f : File) × GoodFile total head f × (i ≡ length (f .items)) × (y .0 ≡ f .primary))
   unfolding Q.verdict opened verdictIn toldVerdict check _>>=_ _>>_
   verdict-accepts i y left g = by (leb 11280 (length table)) refl (accepted total head) refl (g .0)
     where
-      by : (t : Bool) → leb 11280 (length table) ≡ t → (m : Answer File) → accepted total head ≡ m → verdict.Accepted i y ≡ toldVerdict ((check 1 0 t >> m) >>= verdictIn) → (11280 ≤ length table) × ((f : File) × GoodFile total head f × (i ≡ length (f .items)) × (y .0 ≡ f .primary))
+      by : (t : Bool) → leb 11280 (length table) ≡ t → (m : Answer File) → accepted total head ≡ m →
+          verdict.Accepted i y ≡ toldVerdict ((check 1 0 t >> m) >>= verdictIn) → (11280 ≤ length table) ×
+          ((f : File) × GoodFile total head f × (i ≡ length (f .items)) × (y .0 ≡ f .primary))
       by false q m a e = let z : _≡_ {A = ℕ} 0 1 = cc in absurd (omega arith)
       by true q (refuse n p) a e = let z : _≡_ {A = ℕ} 0 1 = cc in absurd (omega arith)
-      by true q (ok f) a e = let same : y ≡ record { 0 = f .primary } = cc in (leb-true _ _ q, (f, accepted-good total head f a, (cc), ap (λ (x : ItemId). x .0) same))
+      by true q (ok f) a e = let same : y ≡ record { 0 = f .primary } = cc in
+          (leb-true _ _ q, (f, accepted-good total head f a, (cc), ap (λ (x : ItemId). x .0) same))
 
   module _ (enough : 11280 ≤ length table) (f : File) (good : GoodFile total head f) where
     good-opened : opened (length table) total head ≡ ok f
@@ -57,28 +69,41 @@ module _ (head : List ℕ) (total : ℕ) (table : List ℕ) where
     asked told k r e = e ∙ ap (λ (m : Answer File). told (m >>= k)) good-opened
 
     -- a file that keeps the rules is accepted; the table is its words; and so on for every question
-    pub verdict-good : (r : FileVerdict) (left : List ℕ) → VerdictGiven head total table r left → (r ≡ verdict.Accepted (length (f .items)) (record { 0 = f .primary })) × (left ≡ wordsOf total head f ++ drop 11280 table)
+    pub verdict-good : (r : FileVerdict) (left : List ℕ) → VerdictGiven head total table r left →
+        (r ≡ verdict.Accepted (length (f .items)) (record { 0 = f .primary })) ×
+        (left ≡ wordsOf total head f ++ drop 11280 table)
     unfolding Q.verdict verdictIn toldVerdict
     verdict-good r left g = (asked toldVerdict verdictIn r (g .0), g .1 ∙ good-after)
 
-    pub size-good : (id : ℕ) (r : Sized) (left : List ℕ) → SizeGiven head total table id r left → (r ≡ toldSized (sizeIn (sceneOf total head f) f id)) × (left ≡ wordsOf total head f ++ drop 11280 table)
+    pub size-good : (id : ℕ) (r : Sized) (left : List ℕ) → SizeGiven head total table id r left →
+        (r ≡ toldSized (sizeIn (sceneOf total head f) f id)) × (left ≡ wordsOf total head f ++ drop 11280 table)
     unfolding Q.size
     size-good id r left g = (asked toldSized _ r (g .0), g .1 ∙ good-after)
 
-    pub trace-good : (id : ℕ) (p : Point) (r : Traced) (left : List ℕ) → TraceGiven head total table id p r left → (r ≡ toldTraced (traceIn (sceneOf total head f) f id p)) × (left ≡ wordsOf total head f ++ drop 11280 table)
+    pub trace-good : (id : ℕ) (p : Point) (r : Traced) (left : List ℕ) → TraceGiven head total table id p r left →
+        (r ≡ toldTraced (traceIn (sceneOf total head f) f id p)) × (left ≡ wordsOf total head f ++ drop 11280 table)
     unfolding Q.trace
     trace-good id p r left g = (asked toldTraced _ r (g .0), g .1 ∙ good-after)
 
     pub sources-good : (id : ℕ) (list : List ℕ) (r : Listed) (list-left left : List ℕ) → SourcesGiven head total table id list r list-left left
-        → (r ≡ toldListed (sourcesIn (sceneOf total head f) f id (length list))) × ((list-left ≡ listAfter (sourcesIn (sceneOf total head f) f id (length list)) list) × (left ≡ wordsOf total head f ++ drop 11280 table))
+        → (r ≡ toldListed (sourcesIn (sceneOf total head f) f id (length list))) ×
+        ((list-left ≡ listAfter (sourcesIn (sceneOf total head f) f id (length list)) list) ×
+        (left ≡ wordsOf total head f ++ drop 11280 table))
     unfolding Q.sources
     sources-good id list r list-left left g = (asked toldListed _ r (g .0), (asked (λ m. listAfter m list) _ list-left (g .1 .0), g .1 .1 ∙ good-after))
 
-    pub property-good : (id k : ℕ) (told part told-left left : List ℕ) → PropertyGiven head total table id k told part told-left left
-        → (part ≡ toldPart (propertyIn (placesIn total head) f id k)) × ((told-left ≡ toldFault told (propertyIn (placesIn total head) f id k)) × (left ≡ wordsOf total head f ++ drop 11280 table))
+    pub property-good : (id k : ℕ) (part told left : List ℕ) → PropertyGiven head total table id k part told left
+        → (part ≡ toldPart (propertyIn (placesIn total head) f id k)) ×
+        ((told ≡ toldFault (propertyIn (placesIn total head) f id k)) ×
+        (left ≡ wordsOf total head f ++ drop 11280 table))
     unfolding Q.property
-    property-good id k told part told-left left g = (asked toldPart _ part (g .0), (asked (toldFault told) _ told-left (g .1 .0), g .1 .1 ∙ good-after))
+    property-good id k part told left g = (
+      asked toldPart _ part (g .0),
+      (asked toldFault _ told (g .1 .0), g .1 .1 ∙ good-after),
+    )
 
-    pub orientation-good : (id : ℕ) (r : Oriented) (left : List ℕ) → OrientationGiven head total table id r left → (r ≡ toldOriented (orientationIn (sceneOf total head f) f id)) × (left ≡ wordsOf total head f ++ drop 11280 table)
+    pub orientation-good : (id : ℕ) (r : Oriented) (left : List ℕ) → OrientationGiven head total table id r left →
+        (r ≡ toldOriented (orientationIn (sceneOf total head f) f id)) ×
+        (left ≡ wordsOf total head f ++ drop 11280 table)
     unfolding orientation
     orientation-good id r left g = (asked toldOriented _ r (g .0), g .1 ∙ good-after)

@@ -1,4 +1,6 @@
--- Demand 3, of the reader's answer: in a file that keeps the rules, every pixel inside the output size of any picture has one path; it ends in a coded picture's pixel or an overlay's fill, and `trace` tells that end and the number of pictures on the way, at most one more than the depth, so at most 17. Assumes nothing.
+-- Demand 3, of the reader's answer: in a file that keeps the rules, every pixel inside the output size of any picture
+-- has one path; it ends in a coded picture's pixel or an overlay's fill, and `trace` tells that end and the number of
+-- pictures on the way, at most one more than the depth, so at most 17. Assumes nothing.
 use Prim.Native.Nat.{ℕ, _+_, _≤_}
 use native.Mathlib.Omega.{arith}
 use mathlib.Core.Path.{_≡_, refl, sym, ap, _∙_}
@@ -21,14 +23,14 @@ use Rattle.pictures.proofs.PathLaws.{Ends, path-ends, one-path, Asked, has-path
 use Rattle.rules.specs.Joined.{rowOf}
 use Rattle.rules.specs.Derivations.{sceneOf}
 use Rattle.rules.specs.Rules.{judged}
-use Rattle.rules.specs.Questions.{traceIn, foundBy}
+use Rattle.questions.specs.Questions.{traceIn, foundBy}
 use Rattle.rules.proofs.RuleLaws.{judged-each}
 use Rattle.rules.proofs.SceneLaws.{accepted-good, inputs-fed}
 use Rattle.rules.proofs.DerivationLaws.{shaped-drawn}
-use Rattle.still.specs.declared.Traced.{Traced as Told}
-use Rattle.still.specs.Told.{toldTraced}
+use Rattle.traced.specs.declared.Traced.{Traced as Told}
+use Rattle.traced.specs.Told.{toldTraced}
 use Rattle.still.specs.Given.{TraceGiven}
-use Rattle.still.proofs.QuestionLaws.{picture-listed}
+use Rattle.asked.proofs.PicturedLaws.{picture-listed}
 use Rattle.faults.specs.Good.{GoodFile}
 use Rattle.faults.proofs.JudgedLaws.{good-judged}
 use Rattle.demands.specs.Call.{IsPicture, shownAs}
@@ -67,7 +69,8 @@ module _ (head : List ℕ) (total : ℕ) (table : List ℕ) (enough : 11280 ≤ 
 
     answered : traceIn s f id p ≡ ok (foundBy f (trace s row p .passed) (trace s row p .end))
     unfolding traceIn
-    answered = ok-bind _ _ row (pictured-is f id shown) ∙ ok-then _ _ tt (ok-check 23 id _ (both-and _ _ (lt-ltb _ _ (inside .in-x)) (lt-ltb _ _ (inside .in-y))))
+    answered = ok-bind _ _ row (pictured-is f id shown) ∙ ok-then _ _ tt
+        (ok-check 23 id _ (both-and _ _ (lt-ltb _ _ (inside .in-x)) (lt-ltb _ _ (inside .in-y))))
 
     pub trace-followed : (r : Told) (left : List ℕ) → TraceGiven head total table id p r left → Followed r
     trace-followed r left g =
@@ -82,5 +85,6 @@ module _ (head : List ℕ) (total : ℕ) (table : List ℕ) (enough : 11280 ≤ 
           ends = path-ends (x .path);
           few = x .short;
           at-most-17 = y .1;
-          told = trace-good head total table enough f good id p r left g .0 ∙ ap toldTraced (answered ∙ ap (λ (t : Traced). ok (foundBy f (t .passed) (t .end))) (y .0));
+          told = trace-good head total table enough f good id p r left g .0 ∙
+              ap toldTraced (answered ∙ ap (λ (t : Traced). ok (foundBy f (t .passed) (t .end))) (y .0));
         }

@@ -1,8 +1,9 @@
--- Determined, for the C face: any two results of an export that keep its promise are equal, all eight numbers, the list and every word of the table. Assumes nothing.
+-- Determined, for the C face: any two results of an export that keep its promise are equal, all eight numbers, the list
+-- and every word of the table. Assumes nothing.
 use Prim.Native.Nat.{ℕ}
 use mathlib.Core.Path.{_≡_, sym, _∙_}
 use mathlib.Core.List.{List}
-use Rattle.still_c.specs.Told.{VerdictGiven, SizeGiven, TraceGiven, SourcesGiven, PropertyGiven, OrientationGiven, TransformsGiven}
+use Rattle.still_c.specs.Given.{VerdictGiven, SizeGiven, TraceGiven, SourcesGiven, PropertyGiven, OrientationGiven, TransformsGiven}
 use Rattle.demands.proofs.Once.{two}
 
 module _ (head : List ℕ) (total : ℕ) (table : List ℕ) where
@@ -15,13 +16,16 @@ module _ (head : List ℕ) (total : ℕ) (table : List ℕ) where
   pub trace-once : (item x y : ℕ) (r s t u : List ℕ) → TraceGiven head total table item x y r t → TraceGiven head total table item x y s u → (r ≡ s) × (t ≡ u)
   trace-once item x y r s t u = two
 
-  pub sources-once : (item : ℕ) (list r s l m t u : List ℕ) → SourcesGiven head total table item list r l t → SourcesGiven head total table item list s m u → (r ≡ s) × ((l ≡ m) × (t ≡ u))
+  pub sources-once : (item : ℕ) (list r s l m t u : List ℕ) → SourcesGiven head total table item list r l t →
+      SourcesGiven head total table item list s m u → (r ≡ s) × ((l ≡ m) × (t ≡ u))
   sources-once item list r s l m t u x y = (x .0 ∙ sym (y .0), two (x .1, x .2) (y .1, y .2))
 
-  pub property-once : (item k : ℕ) (r s t u : List ℕ) → PropertyGiven head total table item k r t → PropertyGiven head total table item k s u → (r ≡ s) × (t ≡ u)
+  pub property-once : (item k : ℕ) (r s t u : List ℕ) → PropertyGiven head total table item k r t →
+      PropertyGiven head total table item k s u → (r ≡ s) × (t ≡ u)
   property-once item k r s t u = two
 
-  pub orientation-once : (item : ℕ) (r s t u : List ℕ) → OrientationGiven head total table item r t → OrientationGiven head total table item s u → (r ≡ s) × (t ≡ u)
+  pub orientation-once : (item : ℕ) (r s t u : List ℕ) → OrientationGiven head total table item r t →
+      OrientationGiven head total table item s u → (r ≡ s) × (t ≡ u)
   orientation-once item r s t u = two
 
 pub transforms-once : (n : ℕ) (r s : List ℕ) → TransformsGiven n r → TransformsGiven n s → r ≡ s

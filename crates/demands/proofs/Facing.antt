@@ -1,4 +1,5 @@
--- Q-3, of the reader's answers: an orientation that is told is the one number of 1 to 8 that fits the picture's own transforms, and no list is told for exactly the other numbers. Assumes nothing.
+-- Q-3, of the reader's answers: an orientation that is told is the one number of 1 to 8 that fits the picture's own
+-- transforms, and no list is told for exactly the other numbers. Assumes nothing.
 use Prim.Native.Nat.{ℕ, _≤_, _<_}
 use mathlib.Core.Path.{_≡_, refl, sym, ap, subst, _∙_}
 use mathlib.Core.List.{List}
@@ -16,7 +17,7 @@ use Rattle.pictures.specs.declared.Turn.{Turn}
 use Rattle.pictures.specs.Scene.{Picture, pictureAt}
 use Rattle.rules.specs.Joined.{boxesOf, typesOf}
 use Rattle.rules.specs.Derivations.{sceneOf}
-use Rattle.rules.specs.Questions.{pictured}
+use Rattle.rules.specs.Opening.{pictured}
 use Rattle.faults.specs.Good.{GoodFile}
 use Rattle.facing.specs.declared.TransformList.{TransformList}
 use Rattle.facing.specs.declared.TransformList.the-variants as transforms
@@ -25,9 +26,9 @@ use Rattle.facing.specs.Orientation.{Plain, orientationIn, transformsIn}
 use Rattle.facing.specs.Told.{toldTransforms}
 use Rattle.facing.proofs.FitsLaws.{OneFits, one-fits}
 use Rattle.facing.proofs.TurnsLaws.{turns-plain}
-use Rattle.still.specs.declared.Oriented.the-variants as oriented
+use Rattle.facing.specs.declared.Oriented.the-variants as oriented
 use Rattle.still.specs.Given.{OrientationGiven, TransformsGiven}
-use Rattle.still.proofs.OrientationLaws.{picture-turns}
+use Rattle.facing.proofs.OrientedLaws.{picture-turns}
 use Rattle.demands.proofs.ToldLaws.{orientation-is, transforms-told}
 use Rattle.demands.proofs.AskedLaws.{transforms-unmet, transforms-off}
 use Rattle.demands.proofs.Demand2.{orientation-good}
@@ -44,7 +45,8 @@ orientation-meant total head f id n e =
     (x .0, x .1, subst (λ (m : ℕ). OneFits m (pictureAt (sceneOf total head f) (x .0) .turns)) (ok-inj _ _ (y .2)) (one-fits _ plain))
 
 -- the number that is told of a file that keeps the rules
-pub orientation-fits : (head : List ℕ) (total : ℕ) (table : List ℕ) → 11280 ≤ length table → (f : File) → GoodFile total head f → (id n : ℕ) (left : List ℕ) → OrientationGiven head total table id (oriented.Is n) left
+pub orientation-fits : (head : List ℕ) (total : ℕ) (table : List ℕ) → 11280 ≤ length table → (f : File) →
+    GoodFile total head f → (id n : ℕ) (left : List ℕ) → OrientationGiven head total table id (oriented.Is n) left
     → (r : ℕ) × (pictured f id ≡ ok r) × OneFits n (pictureAt (sceneOf total head f) r .turns)
 orientation-fits head total table enough f good id n left g =
     orientation-meant total head f id n (orientation-is _ n (sym (orientation-good head total table enough f good id (oriented.Is n) left g .0)))

@@ -1,4 +1,5 @@
--- The forms of the contents refuse by 2 to 11 only, and at their box, line by line of each form's block. Assumes nothing.
+-- The forms of the contents refuse by `readingNumbers` only, and at their box, line by line of each form's block.
+-- Assumes nothing.
 --   Reads f       whatever the form f reads, it refuses by such numbers only, at the place that it is given
 use Prim.Native.Nat.{ℕ, zero, suc, _+_, _-_, _≤_}
 use native.Mathlib.Omega.{arith}
@@ -96,7 +97,8 @@ module _ {A : Type 0} {f : Form A} (h : Reads f) {most : ℕ} (p : ℕ) (s : Lis
   unfolding front
   front-only = value-by _ form-only
 
-  module _ {B : Type 0} {g : A → ℕ → List ℕ → Answer B} (at : ℕ) (l : at + length s ≤ most) (go : (a : A) (b : ℕ) (r : List ℕ) → b + length r ≤ most → Only (Inside most) (g a b r)) where
+  module _ {B : Type 0} {g : A → ℕ → List ℕ → Answer B} (at : ℕ) (l : at + length s ≤ most)
+      (go : (a : A) (b : ℕ) (r : List ℕ) → b + length r ≤ most → Only (Inside most) (g a b r)) where
     lead-by : (m : Answer (Got A)) → f .read p s ≡ m → Only (Inside most) m → Only (Inside most) (leadBy g at s m)
     unfolding leadBy
     lead-by (ok r) e x =

@@ -10,3 +10,9 @@ pub mod Demand1
 pub mod Demand2
 pub mod Demand3
 pub mod Facing
+pub mod OutcomeLaws
+pub mod Outcomes
+pub mod FaceOutcomes
+pub mod FaceSame
+pub mod Behind
+pub mod Example

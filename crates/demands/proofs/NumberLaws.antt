@@ -1,22 +1,29 @@
--- By which numbers and where an answer is refused, for every way in which answers and boxes are put together. A proof of a block is a block of the same lines. Assumes nothing.
+-- By which numbers and where an answer is refused, for every way in which answers and boxes are put together. A proof
+-- of a block is a block of the same lines. Assumes nothing.
 --   Only P m          what m is refused by is a number and a place of P
---   Reading n         n is one of 2 to 11
+--   within part list  each number of a list is one of another
+--   Reading n         n is one of `readingNumbers`
 --   Inside most n p   and p is at most `most`
 use Prim.Native.Nat.{ℕ, zero, suc, _+_, _≤_}
 use native.Mathlib.Omega.{arith}
 use mathlib.Core.Path.{_≡_, refl, ap}
 use mathlib.Core.List.{List, [], _∷_}
 use mathlib.Core.Bool.{Bool, true, false, _&&_}
+use mathlib.Core.Logic.{⊎-elim}
 use lib.ListN.{length, length-append, length-drop}
-use lib.Dec.{leb, ltb}
+use lib.Dec.{eqb, ltb}
+use borrow.Author.Tests.{eqb-true}
 use Rattle.fields.specs.Choice.{pick}
+use Rattle.fields.specs.Lists.{member}
 use Rattle.fields.proofs.FieldLaws.{both}
+use Rattle.fields.proofs.TestLaws.{untrue, and-both, or-either}
 use Rattle.boxes.specs.Answer.{Answer, ok, refuse, check}
 use Rattle.boxes.specs.Answer as Ans
 use Rattle.boxes.specs.Box.{starts, flat, Cut, Cuts, cut}
 use Rattle.boxes.specs.Children.{gather, noRest, contain, firstOr}
 use Rattle.boxes.specs.Exactly.{ended, oneBy, exactly}
 use Rattle.boxes.proofs.BoxLaws.{cut-is, starts-room}
+use Rattle.demands.specs.Numbers.{Among, readingNumbers}
 
 pub record Only {A : Type 0} (P : ℕ → ℕ → Type 0) (m : Answer A) : Type 0 where
   pub by : (n p : ℕ) → m ≡ refuse n p → P n p
@@ -65,8 +72,18 @@ module _ {P : ℕ → ℕ → Type 0} where
   only-pick true h k = h
   only-pick false h k = k
 
+abbrev pub within : List ℕ → List ℕ → Bool
+within [] list = true
+within (x ∷ xs) list = member x list && within xs list
+
+pub among-more : (part list : List ℕ) → within part list ≡ true → (n : ℕ) → Among part n → Among list n
+among-more [] list h n e = untrue e
+among-more (x ∷ part) list h n e =
+    let both = and-both (member x list) _ h in
+    ⊎-elim (λ q. rw (eqb-true n x q) (both .0)) (among-more part list (both .1) n) (or-either (eqb n x) _ e)
+
 abbrev pub Reading : ℕ → Type 0
-Reading n = (leb 2 n && leb n 11) ≡ true
+Reading n = Among readingNumbers n
 
 pub record Inside (most n p : ℕ) : Type 0 where
   pub number : Reading n
@@ -101,7 +118,9 @@ module _ {S : Type 0} {f : ℕ → S → List ℕ → Answer S} {most : ℕ} (h 
   ended-only p z [] k = only-ok
   ended-only p z (x ∷ xs) k = only-refuse (inside refl k)
 
-  one-only : (t : Bool) (k : ℕ → S → List ℕ → Answer S) (p at : ℕ) (z : S) (s : List ℕ) → starts s ≡ t → ((a : ℕ) (z : S) (r : List ℕ) → a + length r ≤ most → Only (Inside most) (k a z r)) → p ≤ most → at + length s ≤ most → Only (Inside most) (oneBy t f k p at z s)
+  one-only : (t : Bool) (k : ℕ → S → List ℕ → Answer S) (p at : ℕ) (z : S) (s : List ℕ) → starts s ≡ t →
+      ((a : ℕ) (z : S) (r : List ℕ) → a + length r ≤ most → Only (Inside most) (k a z r)) → p ≤ most →
+      at + length s ≤ most → Only (Inside most) (oneBy t f k p at z s)
   unfolding oneBy
   one-only true k p at z s e g i l =
       let r = starts-room s e in

@@ -1,17 +1,19 @@
--- Determined: any two results of a public function that keep its promise are equal, the answer, what it leaves in a list, and every word of the table. Assumes nothing.
+-- Determined: any two results of a public function that keep its promise are equal, the answer, what it leaves in a
+-- list, and every word of the table. Assumes nothing.
 use Prim.Native.Nat.{ℕ}
 use mathlib.Core.Path.{_≡_, sym, _∙_}
 use mathlib.Core.List.{List}
 use Rattle.pictures.specs.declared.Point.{Point}
-use Rattle.still.specs.declared.Opened.{Opened}
-use Rattle.still.specs.declared.FileVerdict.{FileVerdict}
-use Rattle.still.specs.declared.Sized.{Sized}
-use Rattle.still.specs.declared.Traced.{Traced}
-use Rattle.still.specs.declared.Listed.{Listed}
-use Rattle.still.specs.declared.Oriented.{Oriented}
-use Rattle.still.specs.declared.PropertyAsked.{PropertyAsked}
+use Rattle.opening.specs.declared.Opened.{Opened}
+use Rattle.asked.specs.declared.FileVerdict.{FileVerdict}
+use Rattle.asked.specs.declared.Sized.{Sized}
+use Rattle.traced.specs.declared.Traced.{Traced}
+use Rattle.sourced.specs.declared.Listed.{Listed}
+use Rattle.facing.specs.declared.Oriented.{Oriented}
+use Rattle.asked.specs.declared.PropertyAsked.{PropertyAsked}
 use Rattle.facing.specs.declared.TransformList.{TransformList}
-use Rattle.still.specs.Given.{OpenedGiven, VerdictGiven, SizeGiven, TraceGiven, SourcesGiven, OrientationGiven, TransformsGiven, AskedGiven, PropertyGiven}
+use Rattle.opening.specs.Told.{OpenedGiven}
+use Rattle.still.specs.Given.{VerdictGiven, SizeGiven, TraceGiven, SourcesGiven, OrientationGiven, TransformsGiven, AskedGiven, PropertyGiven}
 
 -- what is given by equations is given once
 pub two : {A B : Type 0} {a r s : A} {b t u : B} → (r ≡ a) × (t ≡ b) → (s ≡ a) × (u ≡ b) → (r ≡ s) × (t ≡ u)
@@ -30,19 +32,25 @@ module _ (head : List ℕ) (total : ℕ) (table : List ℕ) where
   pub size-once : (id : ℕ) (r s : Sized) (t u : List ℕ) → SizeGiven head total table id r t → SizeGiven head total table id s u → (r ≡ s) × (t ≡ u)
   size-once id r s t u = two
 
-  pub trace-once : (id : ℕ) (p : Point) (r s : Traced) (t u : List ℕ) → TraceGiven head total table id p r t → TraceGiven head total table id p s u → (r ≡ s) × (t ≡ u)
+  pub trace-once : (id : ℕ) (p : Point) (r s : Traced) (t u : List ℕ) → TraceGiven head total table id p r t →
+      TraceGiven head total table id p s u → (r ≡ s) × (t ≡ u)
   trace-once id p r s t u = two
 
-  pub sources-once : (id : ℕ) (list : List ℕ) (r s : Listed) (l m t u : List ℕ) → SourcesGiven head total table id list r l t → SourcesGiven head total table id list s m u → (r ≡ s) × ((l ≡ m) × (t ≡ u))
+  pub sources-once : (id : ℕ) (list : List ℕ) (r s : Listed) (l m t u : List ℕ) →
+      SourcesGiven head total table id list r l t → SourcesGiven head total table id list s m u → (r ≡ s) ×
+      ((l ≡ m) × (t ≡ u))
   sources-once id list r s l m t u = three
 
-  pub asked-once : (id k : ℕ) (r s : PropertyAsked) (t u : List ℕ) → AskedGiven head total table id k r t → AskedGiven head total table id k s u → (r ≡ s) × (t ≡ u)
+  pub asked-once : (id k : ℕ) (r s : PropertyAsked) (t u : List ℕ) → AskedGiven head total table id k r t →
+      AskedGiven head total table id k s u → (r ≡ s) × (t ≡ u)
   asked-once id k r s t u = two
 
-  pub property-once : (id k : ℕ) (told part same l m t u : List ℕ) → PropertyGiven head total table id k told part l t → PropertyGiven head total table id k told same m u → (part ≡ same) × ((l ≡ m) × (t ≡ u))
-  property-once id k told part same l m t u = three
+  pub property-once : (id k : ℕ) (part same l m t u : List ℕ) → PropertyGiven head total table id k part l t →
+      PropertyGiven head total table id k same m u → (part ≡ same) × ((l ≡ m) × (t ≡ u))
+  property-once id k part same l m t u = three
 
-  pub orientation-once : (id : ℕ) (r s : Oriented) (t u : List ℕ) → OrientationGiven head total table id r t → OrientationGiven head total table id s u → (r ≡ s) × (t ≡ u)
+  pub orientation-once : (id : ℕ) (r s : Oriented) (t u : List ℕ) → OrientationGiven head total table id r t →
+      OrientationGiven head total table id s u → (r ≡ s) × (t ≡ u)
   orientation-once id r s t u = two
 
 pub transforms-once : (n : ℕ) (r s : TransformList) → TransformsGiven n r → TransformsGiven n s → r ≡ s

@@ -1,4 +1,5 @@
--- Reading refuses by 2 to 11 only, and at a place that is at most the head's length, line by line of each block. Assumes nothing.
+-- Reading refuses by `readingNumbers` only, and at a place that is at most the head's length, line by line of each
+-- block. Assumes nothing.
 use Prim.Native.Nat.{ℕ, zero, suc, _+_, _-_, _≤_}
 use native.Mathlib.Omega.{arith}
 use mathlib.Core.Path.{_≡_, refl, ap}
@@ -29,8 +30,37 @@ use Rattle.contents.specs.Iprp.{Pair, pairOf, shown}
 use Rattle.contents.specs.Iref.{Derivation, reference, references}
 use Rattle.contents.specs.File.{referred, contentsOf, fileOf, readFile}
 use Rattle.contents.proofs.PropertyLaws.{any-sound}
-use Rattle.demands.proofs.NumberLaws.{Only, only-ok, only-refuse, only-check, only-pick, Inside, inside, contain-only, exactly-only, first-only, from, behind, _>>=_, _>>_}
-use Rattle.demands.proofs.FormNumbers.{whole-only, front-only, lead-only, full-reads, hdlr-reads, pitm-reads, infe-reads, count-reads, iloc-reads, ispe-reads, bytes-reads, ipma-reads, reference-reads}
+use Rattle.demands.proofs.NumberLaws.{
+  Only,
+  only-ok,
+  only-refuse,
+  only-check,
+  only-pick,
+  Inside,
+  inside,
+  contain-only,
+  exactly-only,
+  first-only,
+  from,
+  behind,
+  _>>=_,
+  _>>_,
+}
+use Rattle.demands.proofs.FormNumbers.{
+  whole-only,
+  front-only,
+  lead-only,
+  full-reads,
+  hdlr-reads,
+  pitm-reads,
+  infe-reads,
+  count-reads,
+  iloc-reads,
+  ispe-reads,
+  bytes-reads,
+  ipma-reads,
+  reference-reads,
+}
 
 -- where a box and its content lie
 body-room : (b : List ℕ) → headOf b ≤ length b → headOf b + length (bodyOf b) ≡ length b
@@ -39,14 +69,19 @@ body-room b h = rw length-drop (omega arith)
 place-room : (k at : ℕ) (bs : List (List ℕ)) → placeOf k at bs ≤ at + length (flat bs)
 unfolding placeOf flat
 place-room k at [] = omega arith
-place-room k at (b ∷ bs) = both (λ (q : ℕ). q ≤ at + length (b ++ flat bs)) (eqb (kindOf b) k) _ _ (λ e. omega arith) (λ e. rw length-append (omega (arith, place-room k (at + length b) bs)))
+place-room k at (b ∷ bs) = both (λ (q : ℕ). q ≤ at + length (b ++ flat bs)) (eqb (kindOf b) k) _ _ (λ e. omega arith)
+    (λ e. rw length-append (omega (arith, place-room k (at + length b) bs)))
 
-first-room : (k at : ℕ) (bs : List (List ℕ)) (b : List ℕ) (cs : List (List ℕ)) → All IsBox bs → ofKind k bs ≡ b ∷ cs → placeOf k at bs + headOf b + length (bodyOf b) ≤ at + length (flat bs)
+first-room : (k at : ℕ) (bs : List (List ℕ)) (b : List ℕ) (cs : List (List ℕ)) → All IsBox bs → ofKind k bs ≡ b ∷ cs →
+    placeOf k at bs + headOf b + length (bodyOf b) ≤ at + length (flat bs)
 unfolding placeOf flat ofKind pick
 first-room k at [] b cs a e = let z : _≡_ {A = ℕ} 0 1 = cc in absurd (omega arith)
 first-room k at (c ∷ bs) b cs a e = rw length-append (by (eqb (kindOf c) k) e (first-room k (at + length c) bs b cs (a .1)))
   where
-    by : (t : Bool) → pick t (c ∷ ofKind k bs) (ofKind k bs) ≡ b ∷ cs → (ofKind k bs ≡ b ∷ cs → placeOf k (at + length c) bs + headOf b + length (bodyOf b) ≤ at + length c + length (flat bs)) → pick t at (placeOf k (at + length c) bs) + headOf b + length (bodyOf b) ≤ at + (length c + length (flat bs))
+    by : (t : Bool) → pick t (c ∷ ofKind k bs) (ofKind k bs) ≡ b ∷ cs →
+        (ofKind k bs ≡ b ∷ cs → placeOf k (at + length c) bs + headOf b + length (bodyOf b) ≤ at + length c + length
+        (flat bs)) → pick t at (placeOf k (at + length c) bs) + headOf b + length (bodyOf b) ≤ at + (length c + length
+        (flat bs))
     by true q rec = let z : c ≡ b = cc in rw (← z) (let w = body-room c (a .0 .header) in omega arith)
     by false q rec = let w = rec q in omega arith
 
@@ -55,7 +90,9 @@ unfolding firstOr
 first-ok p [] b e = let z : _≡_ {A = ℕ} 0 1 = cc in absurd (omega arith)
 first-ok p (c ∷ cs) b e = (cs, ap (λ (x : List ℕ). x ∷ cs) (ok-inj c b e))
 
-pair-room : (p at : ℕ) (bs : List (List ℕ)) (two : Pair) → All IsBox bs → pairOf p bs ≡ ok two → (at + headOf (two .first) + length (bodyOf (two .first)) ≤ at + length (flat bs)) × (at + length (two .first) ≤ at + length (flat bs))
+pair-room : (p at : ℕ) (bs : List (List ℕ)) (two : Pair) → All IsBox bs → pairOf p bs ≡ ok two →
+    (at + headOf (two .first) + length (bodyOf (two .first)) ≤ at + length (flat bs)) ×
+    (at + length (two .first) ≤ at + length (flat bs))
 unfolding pairOf flat
 pair-room p at [] two a e = let z : _≡_ {A = ℕ} 0 1 = cc in absurd (omega arith)
 pair-room p at (c ∷ []) two a e = let z : _≡_ {A = ℕ} 0 1 = cc in absurd (omega arith)
@@ -67,12 +104,15 @@ pair-room p at (c ∷ d ∷ f ∷ bs) two a e = let z : _≡_ {A = ℕ} 0 1 = cc
 
 -- the top level
 module _ {most : ℕ} where
-  kind-only : (t : Bool) (k : ℕ → ℕ → List ℕ → Answer Spot) (at n : ℕ) (s : List ℕ) (m : ℕ) → Only (Inside most) (k (at + m) (n - m) (drop m s)) → Only (Inside most) (byKind t k at n s m)
+  kind-only : (t : Bool) (k : ℕ → ℕ → List ℕ → Answer Spot) (at n : ℕ) (s : List ℕ) (m : ℕ) →
+      Only (Inside most) (k (at + m) (n - m) (drop m s)) → Only (Inside most) (byKind t k at n s m)
   unfolding byKind
   kind-only true k at n s m h = only-ok
   kind-only false k at n s m h = h
 
-  look-only : (k : ℕ → ℕ → List ℕ → Answer Spot) → ((at n : ℕ) (s : List ℕ) → at + length s ≤ most → Only (Inside most) (k at n s)) → (at n : ℕ) (s : List ℕ) (l : Look) → look n s ≡ l → at + length s ≤ most → Only (Inside most) (byLook k at n s l)
+  look-only : (k : ℕ → ℕ → List ℕ → Answer Spot) → ((at n : ℕ) (s : List ℕ) → at + length s ≤ most →
+      Only (Inside most) (k at n s)) → (at n : ℕ) (s : List ℕ) (l : Look) → look n s ≡ l → at + length s ≤ most →
+      Only (Inside most) (byLook k at n s l)
   unfolding byLook
   look-only k h at n s short e i = only-refuse (inside refl (omega arith))
   look-only k h at n s bad e i = only-refuse (inside refl (omega arith))
@@ -89,7 +129,8 @@ unfolding byFirst
 first-box-only total head short e = only-refuse (inside refl (omega arith))
 first-box-only total head bad e = only-refuse (inside refl (omega arith))
 first-box-only total head past e = only-refuse (inside refl (omega arith))
-first-box-only total head (good k) e = only-check 4 0 _ (inside refl (omega arith)) >> walk-only _ _ _ _ (let w = look-front total head k e .within in rw length-drop (omega arith))
+first-box-only total head (good k) e = only-check 4 0 _ (inside refl (omega arith)) >>
+    walk-only _ _ _ _ (let w = look-front total head k e .within in rw length-drop (omega arith))
 
 meta-only : (total : ℕ) (head : List ℕ) → Only (Inside (length head)) (metaIn total head)
 unfolding metaIn
@@ -111,7 +152,8 @@ module _ {most : ℕ} where
 
   held-only : (k p : ℕ) (s : List ℕ) → p ≤ most → Only (Inside most) (held k p s)
   unfolding held
-  held-only k p s i = only-pick _ (whole-only ispe-reads p s i) (only-pick _ (whole-only (bytes-reads 32) p s i) (only-pick _ (whole-only (bytes-reads 1) p s i) only-ok))
+  held-only k p s i = only-pick _ (whole-only ispe-reads p s i)
+      (only-pick _ (whole-only (bytes-reads 32) p s i) (only-pick _ (whole-only (bytes-reads 1) p s i) only-ok))
 
   property-only : (at : ℕ) (before : List (List ℕ)) (b : List ℕ) → at ≤ most → Only (Inside most) (property at before b)
   unfolding property
@@ -145,7 +187,9 @@ module _ {most : ℕ} where
   unfolding references
   references-only ids p at s i j = lead-only (full-reads _) p s i at j (λ h a r l. contain-only (reference-only ids _) p a [] r i l)
 
-  referred-only : (ids : List ℕ) (p : ℕ) (bs : List (List ℕ)) → p ≤ most → ((b : List ℕ) (cs : List (List ℕ)) → bs ≡ b ∷ cs → p + headOf b + length (bodyOf b) ≤ most) → Only (Inside most) (referred ids p bs)
+  referred-only : (ids : List ℕ) (p : ℕ) (bs : List (List ℕ)) → p ≤ most →
+      ((b : List ℕ) (cs : List (List ℕ)) → bs ≡ b ∷ cs → p + headOf b + length (bodyOf b) ≤ most) →
+      Only (Inside most) (referred ids p bs)
   unfolding referred
   referred-only ids p [] i h = only-ok
   referred-only ids p (b ∷ bs) i h = references-only ids p _ _ i (h b bs refl)
@@ -157,7 +201,9 @@ module _ {most : ℕ} where
       let c = children-sound known p at s bs e in
       let l = ap length (c .joined) in
       let room : (k : ℕ) → placeOf k at bs ≤ most = λ k. let w = place-room k at bs in omega arith in
-      let body : (k : ℕ) (b : List ℕ) (cs : List (List ℕ)) → ofKind k bs ≡ b ∷ cs → placeOf k at bs + headOf b + length (bodyOf b) ≤ most = λ k b cs q. let w = first-room k at bs b cs (c .all) q in omega arith in
+      let body : (k : ℕ) (b : List ℕ) (cs : List (List ℕ)) → ofKind k bs ≡ b ∷ cs →
+      placeOf k at bs + headOf b + length (bodyOf b) ≤ most = λ k b cs q. let w =
+      first-room k at bs b cs (c .all) q in omega arith in
       first-only p _ i >>= (λ h. first-only p _ i >>= (λ m. first-only p _ i >>= (λ l.
       from (first-only p _ i) (λ b x.
       from (first-only p _ i) (λ r y.
@@ -177,7 +223,8 @@ module _ {most : ℕ} where
   file-only p at s i j = lead-only (full-reads _) p s i at j (λ h a r l. contents-only p a r i l)
 
 -- a `meta` lies in the head, and holds its header
-meta-room : (total : ℕ) (head m : List ℕ) (place : ℕ) → FirstMeta total head m place → (place + headOf m + length (bodyOf m) ≤ length head) × (place ≤ length head)
+meta-room : (total : ℕ) (head m : List ℕ) (place : ℕ) → FirstMeta total head m place →
+    (place + headOf m + length (bodyOf m) ≤ length head) × (place ≤ length head)
 meta-room total head m place f =
     let l = rw (length-append, length-append, length-append) at (ap length (f .joined)) in
     let w = body-room m (by (f .size)) in

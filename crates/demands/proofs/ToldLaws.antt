@@ -6,19 +6,25 @@ use mathlib.Core.List.{List, [], _∷_}
 use mathlib.Core.Bool.{Bool, true, false}
 use Rattle.boxes.specs.declared.Refusal.{Refusal}
 use Rattle.boxes.specs.Answer.{Answer, ok, refuse}
-use Rattle.rules.specs.Questions as Q
-use Rattle.still.specs.declared.FileVerdict.the-variants as verdict
-use Rattle.still.specs.declared.Sized.the-variants as sized
-use Rattle.still.specs.declared.Traced.the-variants as traced
-use Rattle.still.specs.declared.Listed.the-variants as listed
-use Rattle.still.specs.declared.Oriented.the-variants as oriented
+use Rattle.questions.specs.Questions as Q
+use Rattle.asked.specs.declared.FileVerdict.the-variants as verdict
+use Rattle.asked.specs.declared.Sized.the-variants as sized
+use Rattle.traced.specs.declared.Traced.the-variants as traced
+use Rattle.sourced.specs.declared.Listed.the-variants as listed
+use Rattle.facing.specs.declared.Oriented.the-variants as oriented
 use Rattle.facing.specs.declared.TransformList.the-variants as transforms
 use Rattle.facing.specs.Orientation.{Transform}
 use Rattle.facing.specs.Told.{toldTransforms}
-use Rattle.still.specs.Told.{toldVerdict, toldSized, toldFound, toldTraced, toldListed, toldOriented}
+use Rattle.asked.specs.Told.{toldVerdict, toldSized}
+use Rattle.traced.specs.Told.{toldFound, toldTraced}
+use Rattle.sourced.specs.Told.{toldListed}
+use Rattle.facing.specs.Told.{toldOriented}
 
 -- what an answer of any kind is, told by a function that tells refusals by `off` and nothing else by it
-told-refused : {A B : Type 0} (told : Answer A → B) (off : Refusal → B) → ((x : A) (y : Refusal) → told (ok x) ≡ off y → ⊥) → ((n p : ℕ) (y : Refusal) → told (refuse n p) ≡ off y → (n ≡ y .number) × (p ≡ y .place)) → (m : Answer A) (y : Refusal) → told m ≡ off y → m ≡ refuse (y .number) (y .place)
+told-refused : {A B : Type 0} (told : Answer A → B) (off : Refusal → B) →
+    ((x : A) (y : Refusal) → told (ok x) ≡ off y → ⊥) → ((n p : ℕ) (y : Refusal) → told (refuse n p) ≡ off y →
+    (n ≡ y .number) × (p ≡ y .place)) → (m : Answer A) (y : Refusal) → told m ≡ off y →
+    m ≡ refuse (y .number) (y .place)
 told-refused told off apart same (ok x) y e = absurd (apart x y e)
 told-refused told off apart same (refuse n p) y e = let k = same n p y e in rw (k .0, k .1)
 

@@ -1,7 +1,11 @@
--- What a call leaves where it is refused: document 01, below "Refusal numbers". "Refusal 1 writes nothing. Refusals 2 to 20 set the table's first 11,280 words to 0. With 21 to 25 the table is the file's. .. Words past 11,280 are never written."
---   Unlisted, IsOpaque, ..          what 21 to 26 say of an item that is asked for
---   SizeUnmet, .. f s id .. n       the refusals of a question of a good file, n the number; the place is the asked ID
---   Call head total table Unmet n p left    a call that is refused by n at p: why, and the table that it leaves
+-- What a call leaves where it is refused: document 01, below "Refusal numbers". "Refusal 1 writes nothing. Refusals 2
+-- to 20 set the table's first 11,280 words to 0. With 21 to 25 the table is the file's. .. Words past 11,280 are never
+-- written."
+--   IsListed f id, IsPicture f id        f lists the item with that ID, and it is no opaque one
+--   shownAs s f id                       that item's picture
+--   SizeUnmet, TraceUnmet, SourcesUnmet, PropertyUnmet, OrientationUnmet .. n
+--                                        why a question of a good file is refused by n; the place is the asked ID
+--   Call head total table Unmet n p left     a call that is refused by n at p: why, and the table that it leaves
 use Prim.Native.Nat.{ℕ, _≤_, _<_}
 use mathlib.Core.Path.{_≡_}
 use mathlib.Core.List.{List, _++_}
@@ -54,8 +58,9 @@ pub data OrientationUnmet (f : File) (id n : ℕ) : Type 0 where
   no-picture : SizeUnmet f id n → OrientationUnmet f id n
   cropped : n ≡ 26 → IsPicture f id → member clap (typesOf f id) ≡ true → OrientationUnmet f id n
 
--- Unmet: what 21 to 26 say of a good file
+-- Unmet: why the question itself is refused, of a good file
 pub data Call (head : List ℕ) (total : ℕ) (table : List ℕ) (Unmet : File → ℕ → ℕ → Type 0) (n p : ℕ) (left : List ℕ) : Type 0 where
   short : length table < 11280 → n ≡ 1 → p ≡ 0 → left ≡ table → Call head total table Unmet n p left
   bad : 11280 ≤ length table → Refused total head n p → left ≡ replicate 11280 0 ++ drop 11280 table → Call head total table Unmet n p left
-  unmet : 11280 ≤ length table → (f : File) → GoodFile total head f → Unmet f n p → left ≡ wordsOf total head f ++ drop 11280 table → Call head total table Unmet n p left
+  unmet : 11280 ≤ length table → (f : File) → GoodFile total head f → Unmet f n p → left ≡ wordsOf total head f ++
+      drop 11280 table → Call head total table Unmet n p left

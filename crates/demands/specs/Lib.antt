@@ -1,1 +1,4 @@
 pub mod Call
+pub mod Numbers
+pub mod Outcome
+pub mod Example

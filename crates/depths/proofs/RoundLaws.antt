@@ -1,4 +1,5 @@
--- The rounds give the depths, the sweeps give at least the rounds and no more than the depths, and a sweep that is not to be done again is the last that is needed. Assumes nothing.
+-- The rounds give the depths, the sweeps give at least the rounds and no more than the depths, and a sweep that is not
+-- to be done again is the last that is needed. Assumes nothing.
 use Prim.Native.Nat.{ℕ, zero, suc, _+_, _*_, _≤_, _<_, max}
 use native.Mathlib.Decide.{decLt}
 use native.Mathlib.Numerals.{add-one}
@@ -66,7 +67,8 @@ deepest-depth f g e (i ∷ is) h =
     omega arith
 
 -- nextDepth, by the count and the first place that were read
-pub next-depth : (t rows : List ℕ) (f : ℕ → ℕ) (r k first d : ℕ) → k ≡ inputs t r → first ≡ getD t (21 + 16 * r) 0 → d ≡ deepest f (λ i. getD rows (first + i) 0) k → d ≡ nextDepth t rows f r
+pub next-depth : (t rows : List ℕ) (f : ℕ → ℕ) (r k first d : ℕ) → k ≡ inputs t r → first ≡ getD t (21 + 16 * r) 0 →
+    d ≡ deepest f (λ i. getD rows (first + i) 0) k → d ≡ nextDepth t rows f r
 unfolding nextDepth
 next-depth t rows f r k first d e₁ e₂ e = e ∙ ap (λ (p : ℕ). deepest f (λ i. getD rows (p + i) 0) k) e₂ ∙ ap (deepest f (inputAt t rows r)) e₁
 
@@ -99,16 +101,21 @@ module _ (t rows : List ℕ) (n : ℕ) where
   rounds-low : (k r : ℕ) → rounds t rows n k r ≤ k
   unfolding rounds nextDepth
   rounds-low zero r = omega arith
-  rounds-low (suc k) r = both (λ (d : ℕ). d ≤ suc k) _ _ _ (λ e. omega (arith, deepest-low (rounds t rows n k) (inputAt t rows r) k (rounds-low k) (inputs t r))) (λ e. omega arith)
+  rounds-low (suc k) r = both (λ (d : ℕ). d ≤ suc k) _ _ _
+      (λ e. omega (arith, deepest-low (rounds t rows n k) (inputAt t rows r) k (rounds-low k) (inputs t r)))
+      (λ e. omega arith)
 
   -- a round gives no more than words that are at least what follows from at least those of the round before
-  rounds-under : (k : ℕ) (a b : List ℕ) → k < 17 → ((r : ℕ) → rounds t rows n k r ≤ getD a r 0) → ((r : ℕ) → r < n → capped (nextDepth t rows (at a) r) ≤ getD b r 0) → (r : ℕ) → rounds t rows n (suc k) r ≤ getD b r 0
+  rounds-under : (k : ℕ) (a b : List ℕ) → k < 17 → ((r : ℕ) → rounds t rows n k r ≤ getD a r 0) →
+      ((r : ℕ) → r < n → capped (nextDepth t rows (at a) r) ≤ getD b r 0) → (r : ℕ) →
+      rounds t rows n (suc k) r ≤ getD b r 0
   rounds-under k a b l h d r =
       by-place r
       (λ i. omega (arith, rounds-in k r i, rounds-low (suc k) r, next-more t rows (rounds t rows n k) (at a) r h, d r i))
       (λ i. omega (arith, rounds-past (suc k) r i))
 
-  rounds-still : (b : List ℕ) → ((r : ℕ) → r < n → capped (nextDepth t rows (at b) r) ≤ getD b r 0) → (k : ℕ) → k ≤ 17 → (r : ℕ) → rounds t rows n k r ≤ getD b r 0
+  rounds-still : (b : List ℕ) → ((r : ℕ) → r < n → capped (nextDepth t rows (at b) r) ≤ getD b r 0) → (k : ℕ) → k ≤ 17 →
+      (r : ℕ) → rounds t rows n k r ≤ getD b r 0
   unfolding rounds
   rounds-still b d zero l r = omega arith
   rounds-still b d (suc k) l r = rounds-under k b b (omega arith) (rounds-still b d k (omega arith)) d r
@@ -126,7 +133,12 @@ module _ (t rows : List ℕ) (n : ℕ) where
 
   module _ (k : ℕ) (a b : List ℕ) (again : Bool) (w : Deep t rows n k a) (d : Deepened t rows n a b again) where
     pub deep-next : k < 17 → Deep t rows n (k + 1) b
-    deep-next l = record { low = d .low; least = λ r. rw (add-one k) (rounds-under t rows n k a b l (w .least) (d .done) r); most = λ top v. d .sound top v (w .most top v) }
+    deep-next l = record {
+      low = d .low;
+      least = λ r. rw (add-one k)
+          (rounds-under t rows n k a b l (w .least) (d .done) r);
+      most = λ top v. d .sound top v (w .most top v);
+    }
 
     -- where the sweep is not to be done again the words follow from themselves, and no further round gives more
     pub deep-last : again ≡ false → Deep t rows n 17 b
@@ -142,7 +154,10 @@ module _ (t rows : List ℕ) (s : Scene) (i : InputsAre t rows s) where
   rounds-depth : (k r : ℕ) → r < length s → rounds t rows (length s) k r ≡ depthN k s r
   unfolding depthN nextDepth rounds
   rounds-depth zero r h = refl
-  rounds-depth (suc k) r h = rounds-in t rows (length s) k r h ∙ rw (i .count r h) (deepest-depth (rounds t rows (length s) k) (inputAt t rows r) (λ j. depthN k s j) (pictureAt s r .inputs) (λ j l. ap (rounds t rows (length s) k) (i .row r j h l) ∙ rounds-depth k _ (input-inside t rows s i r h j l)))
+  rounds-depth (suc k) r h = rounds-in t rows (length s) k r h ∙
+      rw (i .count r h) (deepest-depth (rounds t rows (length s) k) (inputAt t rows r) (λ j. depthN k s j)
+      (pictureAt s r .inputs) (λ j l. ap (rounds t rows (length s) k) (i .row r j h l) ∙
+      rounds-depth k _ (input-inside t rows s i r h j l)))
 
   -- the depths lie above what follows from them
   next-by : (f : ℕ → ℕ) (r : ℕ) → r < length s → nextDepth t rows f r ≡ depthBy (pictureAt s r .inputs) f
@@ -153,7 +168,8 @@ module _ (t rows : List ℕ) (s : Scene) (i : InputsAre t rows s) where
   depth-above r h = elim (decLt (depth s r) 17) [ yes l ↦ omega (arith, depth-rule s r (omega arith), next-by (λ j. depth s j) r h) | no l ↦ omega (arith, l) ]
 
 -- the words after the 17th sweep are the depths
-pub depth-found : (t rows : List ℕ) (n k : ℕ) (a : List ℕ) → Deep t rows n k a → k ≡ 17 → (s : Scene) → length s ≡ n → InputsAre t rows s → (r : ℕ) → r < n → getD a r 0 ≡ depth s r
+pub depth-found : (t rows : List ℕ) (n k : ℕ) (a : List ℕ) → Deep t rows n k a → k ≡ 17 → (s : Scene) → length s ≡ n →
+    InputsAre t rows s → (r : ℕ) → r < n → getD a r 0 ≡ depth s r
 depth-found t rows n k a w e s l i r q =
     let v = subst (λ (m : ℕ). Deep t rows m 17 a) (sym l) (subst (λ (j : ℕ). Deep t rows n j a) e w) in
     omega (arith, v .least r, rounds-depth t rows s i 17 r (omega arith), v .most (λ j. depth s j) (depth-above t rows s i) r)

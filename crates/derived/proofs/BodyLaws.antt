@@ -45,7 +45,8 @@ body-unless-one st base (e ∷ []) n = absurd (n refl)
 body-unless-one st base (e ∷ x ∷ xs) n = refl
 
 abbrev bodyFrom : Store → ℕ → Extent → List ℕ
-bodyFrom st base e = bodyOr (pick (leb (base + e .offset + e .size) (length (st .known))) (ok (take (e .size) (drop (base + e .offset) (st .known)))) (refuse 17 0))
+bodyFrom st base e = bodyOr (pick (leb (base + e .offset + e .size) (length (st .known)))
+    (ok (take (e .size) (drop (base + e .offset) (st .known)))) (refuse 17 0))
 
 body-one : (st : Store) (base : ℕ) (es : List Extent) → length es ≡ 1 → bodyOr (bodyBy st base es) ≡ bodyFrom st base (getD es 0 noExtent)
 unfolding bodyBy
@@ -58,9 +59,12 @@ pub record HeldAt (head : List ℕ) (at n : ℕ) (b : List ℕ) : Type 0 where
   pub inside : at + n ≤ length head → b ≡ take n (drop at head)
   pub outside : length head < at + n → b ≡ []
 
-module _ (total : ℕ) (head : List ℕ) (f : File) (pl : Places) (room : pl .idat + length (f .idat) ≤ length head) (part : take (length (f .idat)) (drop (pl .idat) head) ≡ f .idat) (small : length head < 18446744073709551616) where
+module _ (total : ℕ) (head : List ℕ) (f : File) (pl : Places) (room : pl .idat + length (f .idat) ≤ length head)
+    (part : take (length (f .idat)) (drop (pl .idat) head) ≡ f .idat) (small : length head < 18446744073709551616) where
   -- counted from the file's start
-  file-body : (base : ℕ) (e : Extent) (b : List ℕ) → (e .size ≡ 0 → ⊥) → HeldAt head (capped (0 + (base + e .offset))) (e .size) b → b ≡ bodyFrom (record { size = total; known = head }) base e
+  file-body : (base : ℕ) (e : Extent) (b : List ℕ) → (e .size ≡ 0 → ⊥) →
+      HeldAt head (capped (0 + (base + e .offset))) (e .size) b →
+      b ≡ bodyFrom (record { size = total; known = head }) base e
   unfolding bodyOr
   file-body base e b some w =
       both (λ (m : Answer (List ℕ)). b ≡ bodyOr m) (leb (base + e .offset + e .size) (length head)) _ _
@@ -77,7 +81,8 @@ module _ (total : ℕ) (head : List ℕ) (f : File) (pl : Places) (room : pl .id
       ]))
 
   -- counted from the content of `idat`
-  idat-body : (base : ℕ) (e : Extent) (b : List ℕ) → base + e .offset + e .size ≤ length (f .idat) → HeldAt head (capped (pl .idat + (base + e .offset))) (e .size) b
+  idat-body : (base : ℕ) (e : Extent) (b : List ℕ) → base + e .offset + e .size ≤ length (f .idat) →
+      HeldAt head (capped (pl .idat + (base + e .offset))) (e .size) b
       → b ≡ bodyFrom (record { size = length (f .idat); known = f .idat }) base e
   unfolding bodyOr
   idat-body base e b l w =
@@ -94,18 +99,21 @@ module _ (total : ℕ) (head : List ℕ) (f : File) (pl : Places) (room : pl .id
   unfolding fileOffset pick
   extent-body l e b some = by (eqb (l .method) 1)
     where
-      by : (t : Bool) → l .base + e .offset + e .size ≤ pick {A = Store} t (record { size = length (f .idat); known = f .idat }) (record { size = total; known = head }) .size
+      by : (t : Bool) → l .base + e .offset + e .size ≤ pick {A = Store} t
+          (record { size = length (f .idat); known = f .idat }) (record { size = total; known = head }) .size
           → HeldAt head (capped (pick t (pl .idat) 0 + (l .base + e .offset))) (e .size) b
           → b ≡ bodyFrom (pick {A = Store} t (record { size = length (f .idat); known = f .idat }) (record { size = total; known = head })) (l .base) e
       by true h w = idat-body (l .base) e b h w
       by false h w = file-body (l .base) e b some w
 
 -- the extents of the item in a row
-pub extents-counted : {t head : List ℕ} {pl : Places} {f : File} → TableOf t head pl f → (r : ℕ) → r < length (f .items) → (n : ℕ) → (r < 256 → n ≡ recordWord t r 8) → n ≡ length (locationOf f (idOf f r) .extents)
+pub extents-counted : {t head : List ℕ} {pl : Places} {f : File} → TableOf t head pl f → (r : ℕ) →
+    r < length (f .items) → (n : ℕ) → (r < 256 → n ≡ recordWord t r 8) → n ≡ length (locationOf f (idOf f r) .extents)
 extents-counted v r h n e = e (row-small v r h) ∙ v .extent-count r h
 
 -- bodyIn, for an item that 13 and 14 pass
-module _ {t head : List ℕ} {pl : Places} {f : File} (v : TableOf t head pl f) (total r : ℕ) (h : r < length (f .items)) (placed : rule13-14 total head f (itemAt f r) ≡ ok tt) where
+module _ {t head : List ℕ} {pl : Places} {f : File} (v : TableOf t head pl f) (total r : ℕ) (h : r < length (f .items))
+    (placed : rule13-14 total head f (itemAt f r) ≡ ok tt) where
   abbrev place : Location
   place = locationOf f (idOf f r)
 
@@ -119,7 +127,8 @@ module _ {t head : List ℕ} {pl : Places} {f : File} (v : TableOf t head pl f) 
       let g = and-both (goodMethod place) (goodLengths place) (check-ok 13 _ _ _ (x .1)) .1 in
       eqb-false _ 0 (not-true _ (extents-each _ noExtent (place .extents) g j l))
 
-  each-within : (j : ℕ) → j < length (place .extents) → place .base + getD (place .extents) j noExtent .offset + getD (place .extents) j noExtent .size ≤ store .size
+  each-within : (j : ℕ) → j < length (place .extents) →
+      place .base + getD (place .extents) j noExtent .offset + getD (place .extents) j noExtent .size ≤ store .size
   unfolding rule13-14
   each-within j l =
       let x = then-ok _ _ tt placed in
@@ -130,12 +139,15 @@ module _ {t head : List ℕ} {pl : Places} {f : File} (v : TableOf t head pl f) 
   body-gone n e o = body-unless-one store (place .base) (place .extents) (λ q. o (extents-counted v r h n e ∙ q))
 
   pub body-here : length head < 18446744073709551616 → (n : ℕ) → (r < 256 → n ≡ recordWord t r 8) → n ≡ 1 → (size offset : ℕ)
-      → (0 < length (place .extents) → (size ≡ getD (place .extents) 0 noExtent .size) × (offset ≡ capped (fileOffset pl place (getD (place .extents) 0 noExtent))))
-      → (b : List ℕ) → (offset + size ≤ length head → b ≡ take size (drop offset head)) → (length head < offset + size → b ≡ []) → b ≡ bodyOr (bodyIn store place)
+      → (0 < length (place .extents) → (size ≡ getD (place .extents) 0 noExtent .size) ×
+      (offset ≡ capped (fileOffset pl place (getD (place .extents) 0 noExtent))))
+      → (b : List ℕ) → (offset + size ≤ length head → b ≡ take size (drop offset head)) →
+      (length head < offset + size → b ≡ []) → b ≡ bodyOr (bodyIn store place)
   body-here small n e o size offset told b inside outside =
       let k : length (place .extents) ≡ 1 = sym (extents-counted v r h n e) ∙ o in
       let some : 0 < length (place .extents) = omega arith in
       let q = told some in
-      extent-body total head f pl (v .sound .idat-room) (v .sound .idat-part) small place (getD (place .extents) 0 noExtent) b (each-some 0 some) (each-within 0 some)
+      extent-body total head f pl (v .sound .idat-room) (v .sound .idat-part) small place
+      (getD (place .extents) 0 noExtent) b (each-some 0 some) (each-within 0 some)
       (rw (← q .0, ← q .1) (record { inside = inside; outside = outside }))
       ∙ sym (body-one store (place .base) (place .extents) k)

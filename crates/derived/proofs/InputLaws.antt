@@ -24,10 +24,12 @@ use Rattle.derived.specs.Told.{Resolved}
 abbrev pub ResolvedTo : List ℕ → List ℕ → File → ℕ → Type 0
 ResolvedTo t rows f k = (i : ℕ) → i < k → getD rows i 0 ≡ rowOf (getD t (7184 + i) 0) (f .items)
 
-pub resolved-more : (t rows : List ℕ) (f : File) (k id row : ℕ) → k < length rows → id ≡ getD t (7184 + k) 0 → row ≡ rowOf id (f .items) → ResolvedTo t rows f k → ResolvedTo t (set rows k row) f (k + 1)
+pub resolved-more : (t rows : List ℕ) (f : File) (k id row : ℕ) → k < length rows → id ≡ getD t (7184 + k) 0 →
+    row ≡ rowOf id (f .items) → ResolvedTo t rows f k → ResolvedTo t (set rows k row) f (k + 1)
 resolved-more t rows f k id row h d e w i l =
     ⊎-elim
-    (λ z. subst (λ (m : ℕ). getD (set rows k row) m 0 ≡ rowOf (getD t (7184 + m) 0) (f .items)) (sym z) (getD-set-same rows k row 0 h ∙ e ∙ ap (λ (a : ℕ). rowOf a (f .items)) d))
+    (λ z. subst (λ (m : ℕ). getD (set rows k row) m 0 ≡ rowOf (getD t (7184 + m) 0) (f .items)) (sym z)
+    (getD-set-same rows k row 0 h ∙ e ∙ ap (λ (a : ℕ). rowOf a (f .items)) d))
     (λ z. getD-set-other rows k i row 0 (λ q. absurd (omega arith)) ∙ w i z)
     (eq-or-lt-of-le {n = i} {m = k} (omega arith))
 
@@ -47,7 +49,8 @@ module _ {t head : List ℕ} {pl : Places} {f : File} (v : TableOf t head pl f) 
     pub inputs-few : length (targetsOf f (idOf f r)) ≤ 2048
     inputs-few = omega (arith, v .target-room r h, v .bounded .few-targets)
 
-    pub input-row : (rows : List ℕ) → Resolved t rows f → (j : ℕ) → j < length (targetsOf f (idOf f r)) → (first row : ℕ) → (r < 256 → first ≡ recordWord t r 5) → row ≡ getD rows (first + j) 0
+    pub input-row : (rows : List ℕ) → Resolved t rows f → (j : ℕ) → j < length (targetsOf f (idOf f r)) →
+        (first row : ℕ) → (r < 256 → first ≡ recordWord t r 5) → row ≡ getD rows (first + j) 0
         → row ≡ rowOf (getD (targetsOf f (idOf f r)) j 0) (f .items)
     input-row rows w j l first row e q =
         q
@@ -56,7 +59,9 @@ module _ {t head : List ℕ} {pl : Places} {f : File} (v : TableOf t head pl f) 
         ∙ ap (λ (a : ℕ). rowOf a (f .items)) (v .target r j h l)
 
   -- an input is one of the items: what its type is tested for is tested of the item in its row
-  pub input-image : (r j : ℕ) → j < length (targetsOf f (idOf f r)) → (row kind : ℕ) (b : Bool) → row ≡ rowOf (getD (targetsOf f (idOf f r)) j 0) (f .items) → (row < 256 → kind ≡ recordWord t row 1) → b ≡ image kind
+  pub input-image : (r j : ℕ) → j < length (targetsOf f (idOf f r)) → (row kind : ℕ) (b : Bool) →
+      row ≡ rowOf (getD (targetsOf f (idOf f r)) j 0) (f .items) → (row < 256 → kind ≡ recordWord t row 1) →
+      b ≡ image kind
       → b ≡ image (itemAt f (rowOf (getD (targetsOf f (idOf f r)) j 0) (f .items)) .type)
   input-image r j l row kind b e q z =
       let m = row-listed (f .items) (getD (targetsOf f (idOf f r)) j 0) (v .sound .listed (idOf f r) j l) in

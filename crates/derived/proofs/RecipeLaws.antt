@@ -102,7 +102,8 @@ module _ (total : ℕ) (head : List ℕ) (f : File) (item : Item) (b : List ℕ)
     abbrev read-tiles : Recipe
     read-tiles = Tiles (record { rows = r; columns = c; wide = w; high = h })
 
-    tiles-told : toldDerivation (tilesOf total head f item) ≡ toldDerivation (check 17 (item .id) (eqb (length (targetsOf f (item .id))) (r * c)) >> ok read-tiles)
+    tiles-told : toldDerivation (tilesOf total head f item) ≡ toldDerivation
+        (check 17 (item .id) (eqb (length (targetsOf f (item .id))) (r * c)) >> ok read-tiles)
     unfolding tilesOf
     tiles-told = read-ok (whole grid-form 0) no-grid tile (bodyOf total head f item) _ (told-grid _ r c w h (sym (e ∙ grid-same)))
 
@@ -120,11 +121,15 @@ module _ (total : ℕ) (head : List ℕ) (f : File) (item : Item) (n : ℕ) (cou
   module _ (k : ℕ) (extents : k ≡ length (locationOf f (item .id) .extents)) where
     pub copy-is : n ≡ 1 → k ≡ 0 → made.Copy ≡ toldDerivation (copyOf total head f item)
     unfolding copyOf toldDerivation
-    copy-is e z = sym (checked-yes 17 (item .id) _ (ok Copy) (both-and _ _ (eq-eqb _ 1 (sym counted ∙ e)) (nothing-none (locationOf f (item .id) .extents) (sym extents ∙ z))))
+    copy-is e z = sym (checked-yes 17 (item .id) _ (ok Copy)
+        (both-and _ _ (eq-eqb _ 1 (sym counted ∙ e))
+        (nothing-none (locationOf f (item .id) .extents) (sym extents ∙ z))))
 
     pub copy-extents : (k ≡ 0 → ⊥) → made.Wrong ≡ toldDerivation (copyOf total head f item)
     unfolding copyOf
-    copy-extents z = sym (checked-no 17 (item .id) _ (ok Copy) (and-none (eqb (length (targetsOf f (item .id))) 1) _ (nothing-some (locationOf f (item .id) .extents) (λ q. z (extents ∙ q)))))
+    copy-extents z = sym (checked-no 17 (item .id) _ (ok Copy)
+        (and-none (eqb (length (targetsOf f (item .id))) 1) _
+        (nothing-some (locationOf f (item .id) .extents) (λ q. z (extents ∙ q)))))
 
   pub copy-inputs : (n ≡ 1 → ⊥) → made.Wrong ≡ toldDerivation (copyOf total head f item)
   unfolding copyOf
@@ -136,17 +141,22 @@ module _ (total : ℕ) (head : List ℕ) (f : File) (item : Item) (n : ℕ) (cou
 
   pub layers-none : n ≡ 0 → made.Wrong ≡ toldDerivation (layersOf total head f item)
   unfolding layersOf
-  layers-none e = sym (read-never (whole (iovl-form (length (targetsOf f (item .id)))) 0) (no-overlay _) lay (λ o. checked-no 17 (item .id) _ (ok (Layers o)) (le-ltb 0 (length (targetsOf f (item .id))) (omega arith))) (bodyOf total head f item))
+  layers-none e = sym (read-never (whole (iovl-form (length (targetsOf f (item .id)))) 0) (no-overlay _) lay
+      (λ o. checked-no 17 (item .id) _ (ok (Layers o)) (le-ltb 0 (length (targetsOf f (item .id))) (omega arith)))
+      (bodyOf total head f item))
 
   module _ (b : List ℕ) (body : b ≡ bodyOr (bodyOf total head f item)) where
-    overlay-same : toldOverlay b (whole (iovl-form n) 0 b) ≡ toldOverlay (bodyOr (bodyOf total head f item)) (whole (iovl-form (length (targetsOf f (item .id)))) 0 (bodyOr (bodyOf total head f item)))
+    overlay-same : toldOverlay b (whole (iovl-form n) 0 b) ≡ toldOverlay (bodyOr (bodyOf total head f item))
+        (whole (iovl-form (length (targetsOf f (item .id)))) 0 (bodyOr (bodyOf total head f item)))
     overlay-same = rw (← body, ← counted)
 
     pub layers-wrong : layers.Wrong ≡ toldOverlay b (whole (iovl-form n) 0 b) → made.Wrong ≡ toldDerivation (layersOf total head f item)
     unfolding layersOf
-    layers-wrong e = sym (read-refused (whole (iovl-form (length (targetsOf f (item .id)))) 0) (no-overlay _) lay (bodyOf total head f item) (told-no-overlay _ _ (sym (e ∙ overlay-same))))
+    layers-wrong e = sym (read-refused (whole (iovl-form (length (targetsOf f (item .id)))) 0) (no-overlay _) lay
+        (bodyOf total head f item) (told-no-overlay _ _ (sym (e ∙ overlay-same))))
 
-    pub layers-is : (w h k : ℕ) → layers.Is w h k ≡ toldOverlay b (whole (iovl-form n) 0 b) → (n ≡ 0 → ⊥) → made.Layers w h ≡ toldDerivation (layersOf total head f item)
+    pub layers-is : (w h k : ℕ) → layers.Is w h k ≡ toldOverlay b (whole (iovl-form n) 0 b) → (n ≡ 0 → ⊥) →
+        made.Layers w h ≡ toldDerivation (layersOf total head f item)
     unfolding layersOf toldDerivation
     layers-is w h k e some =
         let o = told-overlay _ _ w h k (sym (e ∙ overlay-same)) in
@@ -189,7 +199,8 @@ module _ (total : ℕ) (head : List ℕ) (f : File) (item : Item) (r : Recipe) w
   layers-made e = subst Made (body-read _ _ 17 _ _ Layers r e .5) tt
 
   derivation-made : derivationFor total head f item ≡ ok r → Made r
-  derivation-made = both (λ (m : Answer Recipe). m ≡ ok r → Made r) _ _ _ (λ q. copy-made) (λ q. both (λ (m : Answer Recipe). m ≡ ok r → Made r) _ _ _ (λ q. tiles-made) (λ q. layers-made))
+  derivation-made = both (λ (m : Answer Recipe). m ≡ ok r → Made r) _ _ _ (λ q. copy-made)
+      (λ q. both (λ (m : Answer Recipe). m ≡ ok r → Made r) _ _ _ (λ q. tiles-made) (λ q. layers-made))
 
 -- toldDerivation of what derivations make
 told-wrong : (m : Answer Recipe) → ((r : Recipe) → m ≡ ok r → Made r) → toldDerivation m ≡ made.Wrong → Refused m
@@ -249,7 +260,9 @@ module _ (total : ℕ) (head : List ℕ) (f : File) (item : Item) where
 
     module _ (x : Derivation) (told : x ≡ toldDerivation (derivationFor total head f item)) where
       pub derived-wrong : x ≡ made.Wrong → 17 ≡ faultOf (rule17 total head f item)
-      derived-wrong e = for-refused (rw recipe-derived (then-refused 17 (item .id) _ _ (told-wrong (derivationFor total head f item) (derivation-made total head f item) (sym told ∙ e))))
+      derived-wrong e = for-refused (rw recipe-derived (then-refused 17 (item .id) _ _
+          (told-wrong (derivationFor total head f item) (derivation-made total head f item) (sym told ∙ e))))
 
       pub derived-fed : (x ≡ made.Wrong → ⊥) → allImages f (targetsOf f (item .id)) ≡ true → 0 ≡ faultOf (rule17 total head f item)
-      derived-fed n e = let r = told-right (derivationFor total head f item) (λ q. n (told ∙ q)) in for-right (r .0) (recipe-derived ∙ check-then 17 (item .id) _ _ e ∙ r .1)
+      derived-fed n e = let r = told-right (derivationFor total head f item) (λ q. n (told ∙ q)) in
+          for-right (r .0) (recipe-derived ∙ check-then 17 (item .id) _ _ e ∙ r .1)

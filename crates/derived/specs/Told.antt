@@ -28,7 +28,8 @@ bodyOr (ok b) = b
 bodyOr (refuse n p) = []
 
 abbrev pub derivationFor : ℕ → List ℕ → File → Item → Answer Recipe
-derivationFor total head f item = pick (eqb (item .type) iden) (copyOf total head f item) (pick (eqb (item .type) grid) (tilesOf total head f item) (layersOf total head f item))
+derivationFor total head f item = pick (eqb (item .type) iden) (copyOf total head f item)
+    (pick (eqb (item .type) grid) (tilesOf total head f item) (layersOf total head f item))
 
 -- no derivation gives a coded or an opaque item
 unfoldable pub toldDerivation : Answer Recipe → Derivation

@@ -39,7 +39,8 @@ fn row_or_end(table: &[u32], id: ItemId, hope: ItemRow) -> u32
 // For each target of the table, in its order, the row that it names, into a lent list. No table of a file is shorter: the one test spares the loop its own.
 pub fn resolve(table: &[u32], rows: &mut [u32])
     requires { ⌜ 2048 ≤ length (now rows) ⌝ }
-    ensures { λ _. ⌜ ((head : List ℕ) (pl : Places) (f : File) → TableOf (now (table .entry)) head pl f → Resolved (now (table .entry)) (now (rows .exit)) f) ⌝ }
+    ensures { λ _. ⌜ ((head : List ℕ) (pl : Places) (f : File) → TableOf (now (table .entry)) head pl f →
+        Resolved (now (table .entry)) (now (rows .exit)) f) ⌝ }
 {
     if table.len() < Table::WORDS {
         return;
@@ -63,7 +64,10 @@ pub fn resolve(table: &[u32], rows: &mut [u32])
 
 // The row of the input with a number from 0.
 pub fn input_of(table: &[u32], rows: &[u32], row: ItemRow, j: usize) -> ItemRow
-    ensures { λ r. ⌜ ((head : List ℕ) (pl : Places) (f : File) → TableOf (now (table .entry)) head pl f → Resolved (now (table .entry)) (now (rows .entry)) f → row .0 < length (f .items) → j < length (targetsOf f (idOf f (row .0))) → r .0 ≡ rowOf (getD (targetsOf f (idOf f (row .0))) j 0) (f .items)) ⌝ }
+    ensures { λ r. ⌜ ((head : List ℕ) (pl : Places) (f : File) → TableOf (now (table .entry)) head pl f →
+        Resolved (now (table .entry)) (now (rows .entry)) f → row .0 < length (f .items) →
+        j < length (targetsOf f (idOf f (row .0))) → r .0 ≡ rowOf (getD (targetsOf f (idOf f (row .0))) j 0) (f .items))
+        ⌝ }
 {
     let first = views::record_word(table, row, 5) as usize;
     if j < 2048 {
@@ -74,14 +78,17 @@ pub fn input_of(table: &[u32], rows: &[u32], row: ItemRow, j: usize) -> ItemRow
 
 // How many inputs an item has.
 pub fn input_count(table: &[u32], row: ItemRow) -> usize
-    ensures { λ r. ⌜ ((head : List ℕ) (pl : Places) (f : File) → TableOf (now (table .entry)) head pl f → row .0 < length (f .items) → r ≡ length (targetsOf f (idOf f (row .0)))) ⌝ }
+    ensures { λ r. ⌜ ((head : List ℕ) (pl : Places) (f : File) → TableOf (now (table .entry)) head pl f →
+        row .0 < length (f .items) → r ≡ length (targetsOf f (idOf f (row .0)))) ⌝ }
 {
     views::record_word(table, row, 6) as usize
 }
 
 // Whether all inputs of an item are pictures. No table of a file is shorter: the one test spares each input its own.
 fn all_images(table: &[u32], rows: &[u32], row: ItemRow) -> bool
-    ensures { λ r. ⌜ ((head : List ℕ) (pl : Places) (f : File) → TableOf (now (table .entry)) head pl f → Resolved (now (table .entry)) (now (rows .entry)) f → row .0 < length (f .items) → r ≡ allImages f (targetsOf f (idOf f (row .0)))) ⌝ }
+    ensures { λ r. ⌜ ((head : List ℕ) (pl : Places) (f : File) → TableOf (now (table .entry)) head pl f →
+        Resolved (now (table .entry)) (now (rows .entry)) f → row .0 < length (f .items) →
+        r ≡ allImages f (targetsOf f (idOf f (row .0)))) ⌝ }
 {
     if table.len() < Table::WORDS {
         return true;
@@ -99,7 +106,10 @@ fn all_images(table: &[u32], rows: &[u32], row: ItemRow) -> bool
 
 // The body of an item at its one extent, wholly in the head; nothing where it has no such body. The extents are those of an item that 13 and 14 pass.
 pub fn body_of<'a>(head: &'a [u8], table: &[u32], row: ItemRow) -> &'a [u8]
-    ensures { λ r. ⌜ ((total : ℕ) (pl : Places) (f : File) → TableOf (now (table .entry)) (now (head .entry)) pl f → row .0 < length (f .items) → rule13-14 total (now (head .entry)) f (itemAt f (row .0)) ≡ ok tt → now r ≡ bodyOr (bodyIn (storeOf total (now (head .entry)) f (locationOf f (idOf f (row .0)) .method)) (locationOf f (idOf f (row .0))))) ⌝ }
+    ensures { λ r. ⌜ ((total : ℕ) (pl : Places) (f : File) → TableOf (now (table .entry)) (now (head .entry)) pl f →
+        row .0 < length (f .items) → rule13-14 total (now (head .entry)) f (itemAt f (row .0)) ≡ ok tt →
+        now r ≡ bodyOr (bodyIn (storeOf total (now (head .entry)) f (locationOf f (idOf f (row .0)) .method))
+        (locationOf f (idOf f (row .0))))) ⌝ }
 {
     if views::record_word(table, row, 8) == 1 {
         let e = views::extent_of(table, row, 0);
@@ -126,7 +136,8 @@ pub enum Derivation {
 
 // `iden`: one input, no extents.
 fn copy_of(table: &[u32], row: ItemRow) -> Derivation
-    ensures { λ r. ⌜ ((total : ℕ) (head : List ℕ) (pl : Places) (f : File) → TableOf (now (table .entry)) head pl f → row .0 < length (f .items) → r ≡ toldDerivation (copyOf total head f (itemAt f (row .0)))) ⌝ }
+    ensures { λ r. ⌜ ((total : ℕ) (head : List ℕ) (pl : Places) (f : File) → TableOf (now (table .entry)) head pl f →
+        row .0 < length (f .items) → r ≡ toldDerivation (copyOf total head f (itemAt f (row .0)))) ⌝ }
 {
     if input_count(table, row) == 1 {
         if views::record_word(table, row, 8) == 0 {
@@ -138,7 +149,9 @@ fn copy_of(table: &[u32], row: ItemRow) -> Derivation
 
 // `grid`: as many inputs as rows × columns.
 fn tiles_of(head: &[u8], table: &[u32], row: ItemRow) -> Derivation
-    ensures { λ r. ⌜ ((total : ℕ) (pl : Places) (f : File) → TableOf (now (table .entry)) (now (head .entry)) pl f → row .0 < length (f .items) → rule13-14 total (now (head .entry)) f (itemAt f (row .0)) ≡ ok tt → r ≡ toldDerivation (tilesOf total (now (head .entry)) f (itemAt f (row .0)))) ⌝ }
+    ensures { λ r. ⌜ ((total : ℕ) (pl : Places) (f : File) → TableOf (now (table .entry)) (now (head .entry)) pl f →
+        row .0 < length (f .items) → rule13-14 total (now (head .entry)) f (itemAt f (row .0)) ≡ ok tt →
+        r ≡ toldDerivation (tilesOf total (now (head .entry)) f (itemAt f (row .0)))) ⌝ }
 {
     let g = pictures::read_grid(body_of(head, table, row));
     match g {
@@ -164,7 +177,9 @@ fn tiles_of(head: &[u8], table: &[u32], row: ItemRow) -> Derivation
 
 // `iovl`: an offset per input, at least one input.
 fn layers_of(head: &[u8], table: &[u32], row: ItemRow) -> Derivation
-    ensures { λ r. ⌜ ((total : ℕ) (pl : Places) (f : File) → TableOf (now (table .entry)) (now (head .entry)) pl f → row .0 < length (f .items) → rule13-14 total (now (head .entry)) f (itemAt f (row .0)) ≡ ok tt → r ≡ toldDerivation (layersOf total (now (head .entry)) f (itemAt f (row .0)))) ⌝ }
+    ensures { λ r. ⌜ ((total : ℕ) (pl : Places) (f : File) → TableOf (now (table .entry)) (now (head .entry)) pl f →
+        row .0 < length (f .items) → rule13-14 total (now (head .entry)) f (itemAt f (row .0)) ≡ ok tt →
+        r ≡ toldDerivation (layersOf total (now (head .entry)) f (itemAt f (row .0)))) ⌝ }
 {
     let n = input_count(table, row);
     if n == 0 {
@@ -190,7 +205,10 @@ const GRID: u32 = 0x67726964;
 
 // What the body of a derived item makes. No table of a file is shorter: the one test spares the readers of its words their own.
 pub fn derivation_of(head: &[u8], table: &[u32], row: ItemRow) -> Derivation
-    ensures { λ r. ⌜ ((total : ℕ) (pl : Places) (f : File) → TableOf (now (table .entry)) (now (head .entry)) pl f → row .0 < length (f .items) → rule13-14 total (now (head .entry)) f (itemAt f (row .0)) ≡ ok tt → derived (itemAt f (row .0) .type) ≡ true → r ≡ toldDerivation (derivationFor total (now (head .entry)) f (itemAt f (row .0)))) ⌝ }
+    ensures { λ r. ⌜ ((total : ℕ) (pl : Places) (f : File) → TableOf (now (table .entry)) (now (head .entry)) pl f →
+        row .0 < length (f .items) → rule13-14 total (now (head .entry)) f (itemAt f (row .0)) ≡ ok tt →
+        derived (itemAt f (row .0) .type) ≡ true →
+        r ≡ toldDerivation (derivationFor total (now (head .entry)) f (itemAt f (row .0)))) ⌝ }
 {
     if table.len() < Table::WORDS {
         return Derivation::Wrong;
@@ -207,7 +225,10 @@ pub fn derivation_of(head: &[u8], table: &[u32], row: ItemRow) -> Derivation
 
 // 17 for the derived item in a row: its body says how it is made, and its inputs are pictures.
 fn made_fault(head: &[u8], table: &[u32], rows: &[u32], row: ItemRow) -> u32
-    ensures { λ r. ⌜ ((total : ℕ) (pl : Places) (f : File) → TableOf (now (table .entry)) (now (head .entry)) pl f → Resolved (now (table .entry)) (now (rows .entry)) f → row .0 < length (f .items) → rule13-14 total (now (head .entry)) f (itemAt f (row .0)) ≡ ok tt → derived (itemAt f (row .0) .type) ≡ true → r ≡ faultOf (rule17 total (now (head .entry)) f (itemAt f (row .0)))) ⌝ }
+    ensures { λ r. ⌜ ((total : ℕ) (pl : Places) (f : File) → TableOf (now (table .entry)) (now (head .entry)) pl f →
+        Resolved (now (table .entry)) (now (rows .entry)) f → row .0 < length (f .items) →
+        rule13-14 total (now (head .entry)) f (itemAt f (row .0)) ≡ ok tt → derived (itemAt f (row .0) .type) ≡ true →
+        r ≡ faultOf (rule17 total (now (head .entry)) f (itemAt f (row .0)))) ⌝ }
 {
     let d = derivation_of(head, table, row);
     match d {
@@ -223,7 +244,10 @@ fn made_fault(head: &[u8], table: &[u32], rows: &[u32], row: ItemRow) -> u32
 
 // 17 for the item in a row, 0 where it is not given: only derived items have inputs. What is asked of these stands apart, so that most items hand nothing on.
 pub fn derived_fault(head: &[u8], table: &[u32], rows: &[u32], row: ItemRow) -> u32
-    ensures { λ r. ⌜ ((total : ℕ) (pl : Places) (f : File) → TableOf (now (table .entry)) (now (head .entry)) pl f → Resolved (now (table .entry)) (now (rows .entry)) f → row .0 < length (f .items) → rule13-14 total (now (head .entry)) f (itemAt f (row .0)) ≡ ok tt → r ≡ faultOf (rule17 total (now (head .entry)) f (itemAt f (row .0)))) ⌝ }
+    ensures { λ r. ⌜ ((total : ℕ) (pl : Places) (f : File) → TableOf (now (table .entry)) (now (head .entry)) pl f →
+        Resolved (now (table .entry)) (now (rows .entry)) f → row .0 < length (f .items) →
+        rule13-14 total (now (head .entry)) f (itemAt f (row .0)) ≡ ok tt →
+        r ≡ faultOf (rule17 total (now (head .entry)) f (itemAt f (row .0)))) ⌝ }
 {
     if !views::is_derived(views::type_of(table, row)) {
         if input_count(table, row) == 0 {

@@ -1,9 +1,9 @@
 // The drawing program: a still on standard input, the ID of an item in the argument or none for the primary item, an SVG picture as the answer.
 use arguments::Number;
+use asked::FileVerdict;
+use asked::Sized;
 use input::Input;
 use records::FoundRow;
-use still::FileVerdict;
-use still::Sized;
 use table::ItemId;
 use table::ItemRow;
 

@@ -72,7 +72,8 @@ module _ {t head : List ℕ} {pl : Places} {f : File} (v : TableOf t head pl f) 
           clear-here,
           λ s.
               er
-              ∙ (λ i. joinedFacing ((ea ∙ ap turnFacing (turn-read v id j l k e b c eb ec z u q o ∙ turn-same here (λ q. n (kind-here ∙ q)) y z s)) i) (h .1 (sizeAfter (turnOf s here) s) i))
+              ∙ (λ i. joinedFacing ((ea ∙ ap turnFacing (turn-read v id j l k e b c eb ec z u q o ∙
+              turn-same here (λ q. n (kind-here ∙ q)) y z s)) i) (h .1 (sizeAfter (turnOf s here) s) i))
               ∙ ap chainFacing (sym (ap (turnsOf s) (boxes-left v id j l k e) ∙ pick-yes _ _ y)),
         )
 

@@ -1,4 +1,5 @@
--- What a facing does to a picture: over all sizes every chain of transforms that cut nothing does what its facing says, and a facing is told from the others by what it does. Assumes nothing.
+-- What a facing does to a picture: over all sizes every chain of transforms that cut nothing does what its facing says,
+-- and a facing is told from the others by what it does. Assumes nothing.
 --   faced m s p        the point of the picture of size s that the point p comes from when the picture faces by m;   facedSize m s    its size then
 --   told p q           the facing, by where (0, 0) and (1, 0) come from in a picture of 2 × 3
 use Prim.Native.Nat.{ℕ, _-_, _<_}
@@ -62,7 +63,8 @@ module _ (a b : Facing) (s : Size) where
   unfolding joinedFacing
   joined-size = by (a .swap) (b .swap)
     where
-      by : (d e : Bool) → facedSize (facing e (b .across) (b .down)) (facedSize (facing d (a .across) (a .down)) s) ≡ facedSize (joinedFacing (facing d (a .across) (a .down)) (facing e (b .across) (b .down))) s
+      by : (d e : Bool) → facedSize (facing e (b .across) (b .down)) (facedSize (facing d (a .across) (a .down)) s) ≡
+          facedSize (joinedFacing (facing d (a .across) (a .down)) (facing e (b .across) (b .down))) s
       by false e = refl
       by true true = refl
       by true false = refl
@@ -72,7 +74,9 @@ module _ (a b : Facing) (s : Size) where
   joined-back p i = by (a .swap) (b .swap) i
     where
       by : (d e : Bool) → Inside (facedSize (joinedFacing (facing d (a .across) (a .down)) (facing e (b .across) (b .down))) s) p
-          → faced (facing d (a .across) (a .down)) s (faced (facing e (b .across) (b .down)) (facedSize (facing d (a .across) (a .down)) s) p) ≡ faced (joinedFacing (facing d (a .across) (a .down)) (facing e (b .across) (b .down))) s p
+          → faced (facing d (a .across) (a .down)) s (faced (facing e (b .across) (b .down))
+          (facedSize (facing d (a .across) (a .down)) s) p) ≡ faced (joinedFacing (facing d (a .across) (a .down))
+          (facing e (b .across) (b .down))) s p
       by false false i = λ j. point (twice (a .across) (b .across) (s .wide) (p .x) (i .in-x) j) (twice (a .down) (b .down) (s .high) (p .y) (i .in-y) j)
       by false true i = λ j. point (twice (a .across) (b .across) (s .wide) (p .y) (i .in-y) j) (twice (a .down) (b .down) (s .high) (p .x) (i .in-x) j)
       by true false i = λ j. point (twice (a .across) (b .down) (s .wide) (p .y) (i .in-y) j) (twice (a .down) (b .across) (s .high) (p .x) (i .in-x) j)

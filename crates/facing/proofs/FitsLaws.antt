@@ -1,4 +1,5 @@
--- Q-3: "Show that exactly one number fits each chain, the pixel rules taken as maps over all W and H, and that number to list to number returns the same." Assumes nothing.
+-- Q-3: "Show that exactly one number fits each chain, the pixel rules taken as maps over all W and H, and that number
+-- to list to number returns the same." Assumes nothing.
 --   OneFits n ts       n is the one number of 1 to 8 that fits the chain ts
 --   one-fits           each chain of transforms that cut nothing has such a number
 --   there-and-back     number to boxes to number, over the boxes' own bytes
@@ -97,7 +98,8 @@ module _ (n : ℕ) (ts : List Turn) (c : Plain ts) where
         sizes = λ s. for-size s ∙ ap (λ (m : Facing). facedSize m s) e ∙ sym (chain-size ts c s);
         pixels = λ s p i.
             let j = subst (λ (z : Size). Inside z p) (chain-size ts c s) i in
-            chain-back (turnsFor n) (plain-for n) s p (subst (λ (m : Facing). Inside (facedSize m s) p) (sym e) j) ∙ ap (λ (m : Facing). faced m s p) e ∙ sym (chain-back ts c s p j);
+            chain-back (turnsFor n) (plain-for n) s p (subst (λ (m : Facing). Inside (facedSize m s) p) (sym e) j) ∙
+            ap (λ (m : Facing). faced m s p) e ∙ sym (chain-back ts c s p j);
       }
 
   fits-facing : Fits n ts → chainFacing (turnsFor n) ≡ chainFacing ts

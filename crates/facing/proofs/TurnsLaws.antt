@@ -76,6 +76,7 @@ turns-same [] c s z = refl
 turns-same (b ∷ bs) c s z = by (transform (kindOf b)) refl (turns-same bs (clear-behind b bs c))
   where
     by : (t : Bool) → transform (kindOf b) ≡ t → ((s z : Size) → turnsOf s bs ≡ turnsOf z bs)
-        → pick t (turnOf s b ∷ turnsOf (sizeAfter (turnOf s b) s) bs) (turnsOf s bs) ≡ pick t (turnOf z b ∷ turnsOf (sizeAfter (turnOf z b) z) bs) (turnsOf z bs)
+        → pick t (turnOf s b ∷ turnsOf (sizeAfter (turnOf s b) s) bs) (turnsOf s bs) ≡ pick t
+        (turnOf z b ∷ turnsOf (sizeAfter (turnOf z b) z) bs) (turnsOf z bs)
     by true q h = λ j. turn-same b (clear-here b bs c) q s z j ∷ h (sizeAfter (turnOf s b) s) (sizeAfter (turnOf z b) z) j
     by false q h = h s z

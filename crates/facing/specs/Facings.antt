@@ -1,4 +1,5 @@
--- How the number is found: every chain of `irot` and `imir` exchanges the axes or not and then mirrors each or not. Nobody must believe this: `Fits` says what the number means, and the theorems of proofs/FitsLaws tie the two.
+-- How the number is found: every chain of `irot` and `imir` exchanges the axes or not and then mirrors each or not.
+-- Nobody must believe this: `Fits` says what the number means, and the theorems of proofs/FitsLaws tie the two.
 --   flipped a b            whether one of the two holds and not the other
 --   turnFacing t           which way a picture faces after a transform that cuts nothing
 --   joinedFacing a b       a's transforms, then b's

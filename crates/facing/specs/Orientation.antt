@@ -23,7 +23,7 @@ use Rattle.pictures.specs.Turn.{size, Inside, sizeThrough, undone}
 use Rattle.pictures.specs.Decode.{turnsOf}
 use Rattle.pictures.specs.Scene.{Picture, Scene, pictureAt}
 use Rattle.rules.specs.Joined.{typesOf}
-use Rattle.rules.specs.Questions.{opened, pictured}
+use Rattle.rules.specs.Opening.{opened, pictured}
 use Rattle.rules.specs.Derivations.{sceneOf}
 use Rattle.facing.specs.Facings.{numberOf, chainFacing}
 
@@ -36,7 +36,8 @@ unfoldable pub boxFor : Transform → List ℕ
 boxFor (irot a) = 0 ∷ 0 ∷ 0 ∷ 9 ∷ 0x69 ∷ 0x72 ∷ 0x6f ∷ 0x74 ∷ a ∷ []
 boxFor (imir a) = 0 ∷ 0 ∷ 0 ∷ 9 ∷ 0x69 ∷ 0x6d ∷ 0x69 ∷ 0x72 ∷ a ∷ []
 
--- "1 is none; 2 left-right; 3 `irot` 2; 4 top-bottom; 5 `irot` 3 then left-right; 6 `irot` 3; 7 `irot` 1 then left-right; 8 `irot` 1"; by Q-1 `imir` 1 is left-right and `imir` 0 top-bottom
+-- "1 is none; 2 left-right; 3 `irot` 2; 4 top-bottom; 5 `irot` 3 then left-right; 6 `irot` 3; 7 `irot` 1 then
+-- left-right; 8 `irot` 1"; by Q-1 `imir` 1 is left-right and `imir` 0 top-bottom
 unfoldable pub lists : List (List Transform)
 lists =
     []

@@ -1,5 +1,6 @@
 -- The code's values for the answers about orientations.
 --   toldFaced f s id       the orientation of the item's transforms, or that one of them is a `clap`
+--   toldOriented           the code's value for an answer
 --   toldTransforms         the transforms of an orientation, or the refusal
 use Prim.Native.Nat.{ℕ}
 use mathlib.Core.List.{List, [], _∷_}
@@ -14,6 +15,8 @@ use Rattle.pictures.specs.Decode.{turnsOf}
 use Rattle.rules.specs.Joined.{boxesOf, typesOf}
 use Rattle.facing.specs.declared.Faced.{Faced}
 use Rattle.facing.specs.declared.Faced.the-variants as faced
+use Rattle.facing.specs.declared.Oriented.{Oriented}
+use Rattle.facing.specs.declared.Oriented.the-variants as oriented
 use Rattle.facing.specs.declared.Transform as code
 use Rattle.facing.specs.declared.Transform.the-variants as transform
 use Rattle.facing.specs.declared.TransformList.{TransformList}
@@ -24,6 +27,10 @@ use Rattle.facing.specs.Orientation.{Transform, irot, imir}
 -- the same for every size s
 unfoldable pub toldFaced : File → Size → ℕ → Faced
 toldFaced f s id = pick (member clap (typesOf f id)) faced.Cropped (faced.Is (numberOf (chainFacing (turnsOf s (boxesOf f id)))))
+
+unfoldable pub toldOriented : Answer ℕ → Oriented
+toldOriented (ok n) = oriented.Is n
+toldOriented (refuse n p) = oriented.Refused (record { number = n; place = p })
 
 unfoldable pub toldTransform : Transform → code.Transform
 toldTransform (irot a) = transform.Irot a

@@ -6,17 +6,21 @@ ghost use lib.ListN.{length};
 ghost use Rattle.contents.specs.File.{File};
 ghost use Rattle.pictures.specs.declared.Size as Sizes;
 ghost use Rattle.rules.specs.Places.{Places};
+ghost use Rattle.rules.specs.Derivations.{sceneOf};
 ghost use Rattle.views.specs.View.{TableOf, idOf};
 ghost use Rattle.facing.specs.Facings.{flipped, turnFacing, joinedFacing};
 ghost use Rattle.facing.specs.Facings as Facings;
-ghost use Rattle.facing.specs.Orientation.{transformsIn};
-ghost use Rattle.facing.specs.Told.{toldFaced, toldTransforms};
+ghost use Rattle.facing.specs.Orientation.{orientationIn, transformsIn};
+ghost use Rattle.facing.specs.Told.{toldFaced, toldOriented, toldTransforms};
+use asked::Pictured;
 use boxes::Refusal;
 use pictures::Size;
 use pictures::Turn;
+use table::ItemId;
 use table::ItemRow;
 
-// One of the eight ways in which a picture can face: its axes exchanged or not, and each then mirrored or not, left and right by `across`, top and bottom by `down`.
+// One of the eight ways in which a picture can face: its axes exchanged or not, and each then mirrored or not, left and
+// right by `across`, top and bottom by `down`.
 pub struct Facing {
     pub swap: bool,
     pub across: bool,
@@ -95,7 +99,8 @@ pub enum Faced {
 
 // The orientation of the item in a row, its transforms gone through from the last to the first.
 pub fn orientation_of(head: &[u8], table: &[u32], row: ItemRow) -> Faced
-    ensures { λ r. ⌜ ((pl : Places) (f : File) → TableOf (now (table .entry)) (now (head .entry)) pl f → row .0 < length (f .items) → (s : Sizes.Size) → r ≡ toldFaced f s (idOf f (row .0))) ⌝ }
+    ensures { λ r. ⌜ ((pl : Places) (f : File) → TableOf (now (table .entry)) (now (head .entry)) pl f →
+        row .0 < length (f .items) → (s : Sizes.Size) → r ≡ toldFaced f s (idOf f (row .0))) ⌝ }
 {
     let mut faced = faces(false, false, false);
     let mut j = declared::property_count(table, row);
@@ -145,5 +150,28 @@ pub fn transforms_for(orientation: u32) -> TransformList
             number: 27,
             place: 0,
         }),
+    }
+}
+
+pub enum Oriented {
+    Is(u32),
+    Refused(Refusal),
+}
+
+// The orientation of an item of an accepted file's table: 21, 22, then 26.
+pub fn orientation_in(head: &[u8], table: &[u32], id: ItemId) -> Oriented
+    ensures { λ r. ⌜ ((total : ℕ) (pl : Places) (f : File) → TableOf (now (table .entry)) (now (head .entry)) pl f →
+        r ≡ toldOriented (orientationIn (sceneOf total (now (head .entry)) f) f (id .0))) ⌝ }
+{
+    let p = asked::picture_row(table, id);
+    match p {
+        Pictured::Refused(f) => Oriented::Refused(f),
+        Pictured::At(row) => {
+            let o = orientation_of(head, table, row);
+            match o {
+                Faced::Cropped => Oriented::Refused(asked::refusal(26, id)),
+                Faced::Is(n) => Oriented::Is(n),
+            }
+        }
     }
 }

@@ -51,7 +51,8 @@ denies-then n p false m k l = record { there = λ i j e. inl (k .there refl); ab
 denies-nothing : {A : Type 0} (a : A) → Denies (ok a) ⊥
 denies-nothing a = record { there = λ n p e. never a n p e; absent = λ b e w. w }
 
-denies-pick : {A : Type 0} (t : Bool) (a b : Answer A) {W U : Type 0} → (t ≡ true → Denies a W) → (t ≡ false → Denies b U) → Denies (pick t a b) (((t ≡ true) × W) ⊎ ((t ≡ false) × U))
+denies-pick : {A : Type 0} (t : Bool) (a b : Answer A) {W U : Type 0} → (t ≡ true → Denies a W) →
+    (t ≡ false → Denies b U) → Denies (pick t a b) (((t ≡ true) × W) ⊎ ((t ≡ false) × U))
 unfolding pick
 denies-pick true a b {W} {U} k l = denies-as (λ w. inl (refl, w)) by (k refl)
   where
@@ -106,7 +107,8 @@ module _ (total : ℕ) (head : List ℕ) (f : File) (item : Item) where
 
   copy-denied : Denies (copyOf total head f item) ((Not (length ts ≡ 1) ⊎ Not (l .extents ≡ [])) ⊎ ⊥)
   unfolding copyOf
-  copy-denied = denies-then 17 (item .id) _ _ (tells-and (eqb (length ts) 1) (nothingIn (l .extents)) (tells-equal _ 1) (nothing-there (l .extents))) (denies-nothing _)
+  copy-denied = denies-then 17 (item .id) _ _ (tells-and (eqb (length ts) 1) (nothingIn (l .extents)) (tells-equal _ 1)
+      (nothing-there (l .extents))) (denies-nothing _)
 
   tiles-denied : Denies (tilesOf total head f item) NoTiles
   unfolding tilesOf
@@ -129,7 +131,9 @@ module _ (total : ℕ) (head : List ℕ) (f : File) (item : Item) where
       record {
         there = λ n p e b o h s q.
             never (Layers o) n p
-            (sym (ok-bind _ _ b (body-complete st l b h) ∙ ok-bind _ _ o (whole-complete (iovl-form (length ts)) 0 b o s) ∙ ok-then _ _ tt (ok-check 17 _ _ (lt-ltb _ _ q)))
+            (sym (ok-bind _ _ b (body-complete st l b h) ∙
+            ok-bind _ _ o (whole-complete (iovl-form (length ts)) 0 b o s) ∙
+            ok-then _ _ tt (ok-check 17 _ _ (lt-ltb _ _ q)))
             ∙ e);
         absent = λ a e w.
             let x = bind-ok _ _ a e in
@@ -150,7 +154,9 @@ module _ (total : ℕ) (head : List ℕ) (f : File) (item : Item) where
   unfolding recipeFor allImages
   joined-denied =
       denies-pick (derived (item .type)) _ _
-      (λ d. denies-then 17 (item .id) _ _ (tells-each (λ (t : ℕ). image (itemAt f (rowOf t (f .items)) .type)) _ (allImages f) refl (λ x xs. refl) (λ t. tells-itself _) ts) (denies-pick (eqb (item .type) iden) _ _ (λ q. copy-denied) (λ q. denies-pick (eqb (item .type) grid) _ _ (λ q. tiles-denied) (λ q. layers-denied))))
+      (λ d. denies-then 17 (item .id) _ _ (tells-each (λ (t : ℕ). image (itemAt f (rowOf t (f .items)) .type)) _
+      (allImages f) refl (λ x xs. refl) (λ t. tells-itself _) ts) (denies-pick (eqb (item .type) iden) _ _
+      (λ q. copy-denied) (λ q. denies-pick (eqb (item .type) grid) _ _ (λ q. tiles-denied) (λ q. layers-denied))))
       (λ d. denies-then 17 (item .id) _ _ (nothing-there ts) (denies-nothing _))
 
   -- `iovl` is what a derived item is that is neither `iden` nor `grid`

@@ -24,7 +24,27 @@ use Rattle.rules.specs.Joined.{associationsOf, propertyAt, rowOf, noItem, itemA
 use Rattle.rules.specs.Bytes.{Store, allExtents, goodMethod, goodLengths, within}
 use Rattle.rules.specs.Derivations.{nothingIn}
 use Rattle.rules.specs.Rules.{goodPrimary, essentialKnown, countOf, ispeBefore, goodIspe}
-use Rattle.faults.specs.Fault.{Any, Not, PrimaryWrong, unlisted, opaque, hidden, WrongPlace, method, reference, no-length, WrongBytes, past, without, NotReadable, protected, unknown, WrongIspe, not-one, late}
+use Rattle.faults.specs.Fault.{
+  Any,
+  Not,
+  PrimaryWrong,
+  unlisted,
+  opaque,
+  hidden,
+  WrongPlace,
+  method,
+  reference,
+  no-length,
+  WrongBytes,
+  past,
+  without,
+  NotReadable,
+  protected,
+  unknown,
+  WrongIspe,
+  not-one,
+  late,
+}
 use Rattle.faults.proofs.TellsLaws.{Tells, tells-as, tells-and, tells-itself, tells-not, tells-if, tells-equal, tells-other, tells-most, tells-each}
 
 -- 12, goodPrimary
@@ -51,7 +71,8 @@ tells-extents t P = tells-each t P (allExtents t) refl (λ x xs. refl)
 pub tells-place : (l : Location) → Tells (goodMethod l && goodLengths l) (WrongPlace l)
 tells-place l =
     tells-as to from
-    (tells-and (goodMethod l) (goodLengths l) (tells-and (leb (l .method) 1) (eqb (l .reference) 0) (tells-most _ 1) (tells-equal _ 0)) (tells-extents _ (λ (e : Extent). e .size ≡ 0) (λ e. tells-other (e .size) 0) (l .extents)))
+    (tells-and (goodMethod l) (goodLengths l) (tells-and (leb (l .method) 1) (eqb (l .reference) 0) (tells-most _ 1)
+    (tells-equal _ 0)) (tells-extents _ (λ (e : Extent). e .size ≡ 0) (λ e. tells-other (e .size) 0) (l .extents)))
   where
     to : ((1 < l .method) ⊎ Not (l .reference ≡ 0)) ⊎ Any (λ (e : Extent). e .size ≡ 0) (l .extents) → WrongPlace l
     to (inl (inl m)) = method m
@@ -71,7 +92,10 @@ nothing-here (x ∷ xs) e = untrue e
 pub tells-bytes : (st : Store) (l : Location) (type : ℕ) → Tells (within st l && not (coded type && nothingIn (l .extents))) (WrongBytes st l type)
 tells-bytes st l type =
     tells-as to from
-    (tells-and (within st l) (not (coded type && nothingIn (l .extents))) (tells-extents _ (λ (e : Extent). st .size < l .base + e .offset + e .size) (λ e. tells-most (l .base + e .offset + e .size) (st .size)) (l .extents)) (tells-not (coded type && nothingIn (l .extents))))
+    (tells-and (within st l) (not (coded type && nothingIn (l .extents)))
+    (tells-extents _ (λ (e : Extent). st .size < l .base + e .offset + e .size)
+    (λ e. tells-most (l .base + e .offset + e .size) (st .size)) (l .extents)) (tells-not
+    (coded type && nothingIn (l .extents))))
   where
     to : Any (λ (e : Extent). st .size < l .base + e .offset + e .size) (l .extents) ⊎ ((coded type && nothingIn (l .extents)) ≡ true) → WrongBytes st l type
     to (inl a) = past a
@@ -87,7 +111,8 @@ unfolding essentialKnown
 tells-readable f i =
     tells-as to from
     (tells-and (eqb (i .protection) 0) (essentialKnown f (associationsOf f (i .id))) (tells-equal _ 0)
-    (tells-each (λ (a : Association). not (a .essential) || knownProperty (kindOf (propertyAt f (a .index)))) Unknown (essentialKnown f) refl (λ x xs. refl) (λ a. tells-if (a .essential) _) (associationsOf f (i .id))))
+    (tells-each (λ (a : Association). not (a .essential) || knownProperty (kindOf (propertyAt f (a .index)))) Unknown
+    (essentialKnown f) refl (λ x xs. refl) (λ a. tells-if (a .essential) _) (associationsOf f (i .id))))
   where
     Unknown : Association → Type 0
     Unknown a = (a .essential ≡ true) × (knownProperty (kindOf (propertyAt f (a .index))) ≡ false)
@@ -106,7 +131,8 @@ unfolding countOf pick
 tells-counted k [] = record { there = λ e. untrue (sym e); absent = λ e w. untrue w }
 tells-counted k (x ∷ xs) = by (eqb x k) refl (eqb k x) refl (tells-counted k xs)
   where
-    by : (t : Bool) → eqb x k ≡ t → (u : Bool) → eqb k x ≡ u → Tells (eqb (countOf k xs) 0) (member k xs ≡ true) → Tells (eqb (pick t 1 0 + countOf k xs) 0) ((u || member k xs) ≡ true)
+    by : (t : Bool) → eqb x k ≡ t → (u : Bool) → eqb k x ≡ u → Tells (eqb (countOf k xs) 0) (member k xs ≡ true) →
+        Tells (eqb (pick t 1 0 + countOf k xs) 0) ((u || member k xs) ≡ true)
     by true p true q h = record { there = λ e. refl; absent = λ e w. let z : 1 + countOf k xs ≡ 0 = eqb-true _ 0 e in omega arith }
     by true p false q h = absurd (eqb-false k x q (sym (eqb-true x k p)))
     by false p true q h = absurd (eqb-false x k p (sym (eqb-true k x q)))
@@ -138,7 +164,16 @@ tells-late (k ∷ ks) =
       there = λ q. record { before = []; turn = k; behind = ks; joined = refl; turns = e; again = tells-counted ispe ks .there q };
       absent = λ q w. tells-counted ispe ks .absent q (in-rest (w .before) _ _ (w .joined) (w .again));
     })
-    (λ e. tells-as (λ w. record { before = k ∷ w .before; turn = w .turn; behind = w .behind; joined = ap (λ (l : List ℕ). k ∷ l) (w .joined); turns = w .turns; again = w .again }) (λ w. further e (w .before) w (w .joined)) (tells-late ks))
+    (λ e. tells-as (λ w. record {
+      before = k ∷ w .before;
+      turn = w .turn;
+      behind = w .behind;
+      joined =
+          ap (λ (l : List ℕ). k ∷ l) (w .joined);
+      turns = w .turns;
+      again =
+          w .again;
+    }) (λ w. further e (w .before) w (w .joined)) (tells-late ks))
   where
     in-rest : (bs : List ℕ) (t : ℕ) (r : List ℕ) → bs ++ (t ∷ r) ≡ k ∷ ks → member ispe r ≡ true → member ispe ks ≡ true
     in-rest [] t r e m = let z : r ≡ ks = cc in rw z at m
@@ -146,7 +181,15 @@ tells-late (k ∷ ks) =
 
     further : transform k ≡ false → (bs : List ℕ) (w : Late (k ∷ ks)) → bs ++ (w .turn ∷ w .behind) ≡ k ∷ ks → Late ks
     further e [] w j = let z : w .turn ≡ k = cc in untrue (sym e ∙ sym (ap transform z) ∙ w .turns)
-    further e (b ∷ bs) w j = record { before = bs; turn = w .turn; behind = w .behind; joined = let z : bs ++ (w .turn ∷ w .behind) ≡ ks = cc in z; turns = w .turns; again = w .again }
+    further e (b ∷ bs) w j = record {
+      before = bs;
+      turn = w .turn;
+      behind = w .behind;
+      joined = let z : bs ++
+          (w .turn ∷ w .behind) ≡ ks = cc in z;
+      turns = w .turns;
+      again = w .again;
+    }
 
 pub tells-ispe : (ks : List ℕ) → Tells (goodIspe ks) (WrongIspe ks)
 tells-ispe ks = tells-as to from (tells-and (eqb (countOf ispe ks) 1) (ispeBefore ks) (tells-equal _ 1) (tells-late ks))

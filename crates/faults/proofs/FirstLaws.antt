@@ -88,7 +88,8 @@ module _ (total : ℕ) (head : List ℕ) (f : File) where
   earlier-itself (x ∷ xs) (inl l) = omega arith
   earlier-itself (x ∷ xs) (inr e) = earlier-itself xs (e .1)
 
-  pub examines-one : (n : Number) (r : ℕ) (m : Answer (Unit {0})) → (m ≡ ok tt → F n r → ⊥) → ((k p : ℕ) → m ≡ refuse k p → ((k ≡ rule n .number) × (p ≡ rule n .place r)) × F n r) → Examines m (Just n r)
+  pub examines-one : (n : Number) (r : ℕ) (m : Answer (Unit {0})) → (m ≡ ok tt → F n r → ⊥) →
+      ((k p : ℕ) → m ≡ refuse k p → ((k ≡ rule n .number) × (p ≡ rule n .place r)) × F n r) → Examines m (Just n r)
   examines-one n r m g h =
       record {
         good = λ e m q i w. g e (just-fault n r m q i w);
@@ -109,9 +110,12 @@ module _ (total : ℕ) (head : List ℕ) (f : File) where
   examines-check n r t k = examines-one n r _ (λ e. k .absent (check-ok _ _ t tt e)) (λ i j e. let x = refused _ _ t i j e in ((x .0, x .1), k .there (x .2)))
 
   -- two faults of a row, asked by rising number
-  pub just-apart : (n m : Number) (r : ℕ) → rule n .stage ≤ rule m .stage → rule n .lap r ≤ rule m .lap r → rule n .number < rule m .number → (a : Number) (b : ℕ) (c : Number) (d : ℕ) → Just n r a b → Just m r c d → Earlier (T c d) (T a b) → ⊥
+  pub just-apart : (n m : Number) (r : ℕ) → rule n .stage ≤ rule m .stage → rule n .lap r ≤ rule m .lap r →
+      rule n .number < rule m .number → (a : Number) (b : ℕ) (c : Number) (d : ℕ) → Just n r a b → Just m r c d →
+      Earlier (T c d) (T a b) → ⊥
   just-apart n m r hs hl hn a b c d i j y =
-      let x : Earlier (T m r) (T n r) = subst (λ (l : List ℕ). Earlier l (T n r)) (just-turn m r c d j) (subst (λ (l : List ℕ). Earlier (T c d) l) (just-turn n r a b i) y) in
+      let x : Earlier (T m r) (T n r) = subst (λ (l : List ℕ). Earlier l (T n r)) (just-turn m r c d j)
+      (subst (λ (l : List ℕ). Earlier (T c d) l) (just-turn n r a b i) y) in
       let z = turn-number m r n r (omega arith) x hs hl in
       omega arith
 
@@ -120,7 +124,9 @@ module _ (total : ℕ) (head : List ℕ) (f : File) where
   examines-none In h = record { good = λ e. h; first = λ i j e. let z : _≡_ {A = ℕ} 0 1 = cc in absurd (omega arith) }
 
   -- one after the other: none of the later faults has its turn before one of the earlier
-  pub examines-then : (a b : Answer (Unit {0})) (A B : Number → ℕ → Type 0) → ((n : Number) (r : ℕ) (m : Number) (q : ℕ) → A n r → B m q → Earlier (T m q) (T n r) → ⊥) → Examines a A → Examines b B → Examines (a >> b) (λ n r. A n r ⊎ B n r)
+  pub examines-then : (a b : Answer (Unit {0})) (A B : Number → ℕ → Type 0) →
+      ((n : Number) (r : ℕ) (m : Number) (q : ℕ) → A n r → B m q → Earlier (T m q) (T n r) → ⊥) → Examines a A →
+      Examines b B → Examines (a >> b) (λ n r. A n r ⊎ B n r)
   unfolding _>>_
   examines-then (ok u) b A B apart k l = record { good = neither; first = λ i j e. second (l .first i j e) }
     where
@@ -129,22 +135,45 @@ module _ (total : ℕ) (head : List ℕ) (f : File) where
       neither e n r (inr b) = l .good e n r b
 
       second : {i j : ℕ} → Finds B i j → Finds (λ n r. A n r ⊎ B n r) i j
-      second x = record { number = x .number; row = x .row; among = inr (x .among); number-is = x .number-is; place-is = x .place-is; there = x .there; none-before = none }
+      second x = record {
+        number = x .number;
+        row = x .row;
+        among = inr (x .among);
+        number-is = x .number-is;
+        place-is =
+            x .place-is;
+        there = x .there;
+        none-before = none;
+      }
         where
           none : (m : Number) (q : ℕ) → A m q ⊎ B m q → Earlier (T m q) (T (x .number) (x .row)) → F m q → ⊥
           none m q (inl a) y w = k .good refl m q a w
           none m q (inr b) y w = x .none-before m q b y w
-  examines-then (refuse i j) b A B apart k l = record { good = λ e. let z : _≡_ {A = ℕ} 0 1 = cc in absurd (omega arith); first = λ i j e. only (k .first i j e) }
+  examines-then (refuse i j) b A B apart k l = record {
+    good = λ e. let z : _≡_ {A = ℕ} 0 1 = cc in
+        absurd (omega arith);
+    first = λ i j e. only (k .first i j e);
+  }
     where
       only : {i j : ℕ} → Finds A i j → Finds (λ n r. A n r ⊎ B n r) i j
-      only x = record { number = x .number; row = x .row; among = inl (x .among); number-is = x .number-is; place-is = x .place-is; there = x .there; none-before = none }
+      only x = record {
+        number = x .number;
+        row = x .row;
+        among = inl (x .among);
+        number-is = x .number-is;
+        place-is =
+            x .place-is;
+        there = x .there;
+        none-before = none;
+      }
         where
           none : (m : Number) (q : ℕ) → A m q ⊎ B m q → Earlier (T m q) (T (x .number) (x .row)) → F m q → ⊥
           none m q (inl a) y w = x .none-before m q a y w
           none m q (inr b) y w = apart (x .number) (x .row) m q (x .among) b y
 
   -- the same faults in other words
-  pub examines-as : (m : Answer (Unit {0})) (A C : Number → ℕ → Type 0) → ((n : Number) (r : ℕ) → A n r → C n r) → ((n : Number) (r : ℕ) → F n r → C n r → A n r) → Examines m A → Examines m C
+  pub examines-as : (m : Answer (Unit {0})) (A C : Number → ℕ → Type 0) → ((n : Number) (r : ℕ) → A n r → C n r) →
+      ((n : Number) (r : ℕ) → F n r → C n r → A n r) → Examines m A → Examines m C
   examines-as m A C to from k =
       record {
         good = λ e n r c w. k .good e n r (from n r w c) w;
@@ -170,7 +199,10 @@ module _ (total : ℕ) (head : List ℕ) (f : File) where
   abbrev pub Rows : (ℕ → Number → ℕ → Type 0) → ℕ → ℕ → Number → ℕ → Type 0
   Rows In k n m q = (j : ℕ) × (j < n) × In (k + j) m q
 
-  pub examines-rows : (g : ℕ → Item → Answer (Unit {0})) (In : ℕ → Number → ℕ → Type 0) (stage lap : ℕ) → ((r : ℕ) → Within stage lap r (In r)) → (k : ℕ) (is : List Item) → ((j : ℕ) → j < length is → Examines (g (k + j) (getD is j noItem)) (In (k + j))) → Examines (inOrder g k is) (Rows In k (length is))
+  pub examines-rows : (g : ℕ → Item → Answer (Unit {0})) (In : ℕ → Number → ℕ → Type 0) (stage lap : ℕ) →
+      ((r : ℕ) → Within stage lap r (In r)) → (k : ℕ) (is : List Item) →
+      ((j : ℕ) → j < length is → Examines (g (k + j) (getD is j noItem)) (In (k + j))) →
+      Examines (inOrder g k is) (Rows In k (length is))
   unfolding inOrder
   examines-rows g In stage lap w k [] h = examines-none _ (λ n r i x. let z = i .1 in omega arith)
   examines-rows g In stage lap w k (i ∷ is) h =

@@ -1,4 +1,5 @@
--- Demand 2: a file is accepted exactly when it keeps the rules, its structure is the only one, and what is refused is refused by the first fault. Assumes nothing.
+-- Demand 2: a file is accepted exactly when it keeps the rules, its structure is the only one, and what is refused is
+-- refused by the first fault. Assumes nothing.
 use Prim.Native.Nat.{ℕ}
 use native.Mathlib.Omega.{arith}
 use mathlib.Core.Path.{_≡_, refl, sym, ap, subst, _∙_}
@@ -10,7 +11,7 @@ use Rattle.contents.specs.File.{File, readFile}
 use Rattle.contents.specs.Keeps.{FileIn}
 use Rattle.contents.proofs.ReadLaws.{read-sound, read-complete, one-in}
 use Rattle.rules.specs.Rules.{judged}
-use Rattle.rules.specs.Questions.{accepted}
+use Rattle.rules.specs.Opening.{accepted}
 use Rattle.faults.specs.Fault.{Rule, Number, ruleOf}
 use Rattle.faults.specs.Order.{First}
 use Rattle.faults.specs.Good.{GoodFile, Refused, unread, at-fault}
@@ -23,7 +24,8 @@ module _ (total : ℕ) (head : List ℕ) where
   accepted-good f e =
       let x = bind-ok _ _ f e in
       let y = then-ok _ _ f (x .2) in
-      subst (GoodFile total head) (ok-inj _ f (y .2)) (record { spelled = read-sound total head (x .0) (x .1); no-fault = judged-good total head (x .0) (y .1) })
+      subst (GoodFile total head) (ok-inj _ f (y .2)) (record
+      { spelled = read-sound total head (x .0) (x .1); no-fault = judged-good total head (x .0) (y .1) })
 
   pub good-accepted : (f : File) → GoodFile total head f → accepted total head ≡ ok f
   unfolding accepted
@@ -41,12 +43,16 @@ module _ (total : ℕ) (head : List ℕ) where
   unfolding accepted
   refused-first n p e = by (bind-refuse (readFile total head) _ n p e)
     where
-      by : (readFile total head ≡ refuse n p) ⊎ ((f : File) × (readFile total head ≡ ok f) × ((judged total head f >> ok f) ≡ refuse n p)) → Refused total head n p
+      by : (readFile total head ≡ refuse n p) ⊎ ((f : File) × (readFile total head ≡ ok f) ×
+          ((judged total head f >> ok f) ≡ refuse n p)) → Refused total head n p
       by (inl e) = unread e
-      by (inr (f, e, q)) = let x = judged-first total head f n p (then-refuse (judged total head f) f n p q) in at-fault f (x .0) (x .1) (read-sound total head f e) (x .2) (x .3) (x .4)
+      by (inr (f, e, q)) = let x = judged-first total head f n p (then-refuse (judged total head f) f n p q) in
+          at-fault f (x .0) (x .1) (read-sound total head f e) (x .2) (x .3) (x .4)
 
   pub first-refused : (n p : ℕ) → Refused total head n p → accepted total head ≡ refuse n p
   unfolding accepted _>>=_ _>>_
   first-refused n p (unread e) = rw e
   first-refused n p (at-fault f k r i x a b) =
-      ok-bind _ _ f (read-complete total head f i) ∙ ap (λ (m : Answer (Unit {0})). m >> ok f) (first-judged total head f k r x) ∙ (ap (λ (j : ℕ). refuse j (ruleOf total head f k .place r)) (sym a) ∙ ap (refuse n) (sym b))
+      ok-bind _ _ f (read-complete total head f i) ∙ ap (λ (m : Answer (Unit {0})). m >> ok f)
+      (first-judged total head f k r x) ∙ (ap (λ (j : ℕ). refuse j (ruleOf total head f k .place r)) (sym a) ∙
+      ap (refuse n) (sym b))

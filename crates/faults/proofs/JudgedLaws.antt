@@ -32,14 +32,33 @@ use Rattle.faults.proofs.TellsLaws.{Tells, tells-as, tells-not, tells-m
 use Rattle.faults.proofs.FaultLaws.{tells-primary, tells-place, tells-bytes, tells-readable, tells-ispe}
 use Rattle.faults.proofs.DerivationLaws.{rule-17-there, rule-17-absent}
 use Rattle.faults.proofs.SizeLaws.{tells-sizes}
-use Rattle.faults.proofs.FirstLaws.{turn-stage, turn-lap, Finds, Examines, Just, examines-one, examines-check, just-apart, examines-none, examines-then, examines-as, Within, Rows, examines-rows}
+use Rattle.faults.proofs.FirstLaws.{
+  turn-stage,
+  turn-lap,
+  Finds,
+  Examines,
+  Just,
+  examines-one,
+  examines-check,
+  just-apart,
+  examines-none,
+  examines-then,
+  examines-as,
+  Within,
+  Rows,
+  examines-rows,
+}
 
 -- Earlier: of two lists as long as each other, one is earlier or they are the same
 ordered : (xs ys : List ℕ) → length xs ≡ length ys → Earlier xs ys ⊎ ((xs ≡ ys) ⊎ Earlier ys xs)
 ordered [] [] e = inr (inl refl)
 ordered [] (y ∷ ys) e = absurd (omega arith)
 ordered (x ∷ xs) [] e = absurd (omega arith)
-ordered (x ∷ xs) (y ∷ ys) e = elim (decLt x y) [ yes l ↦ inl (inl l) | no n ↦ elim (decLt y x) [ yes l ↦ inr (inr (inl l)) | no m ↦ same (omega (arith, n, m)) (ordered xs ys (omega arith)) ] ]
+ordered (x ∷ xs) (y ∷ ys) e = elim (decLt x y) [
+  | yes l ↦ inl (inl l)
+  | no n ↦ elim (decLt y x)
+      [ yes l ↦ inr (inr (inl l)) | no m ↦ same (omega (arith, n, m)) (ordered xs ys (omega arith)) ]
+]
   where
     same : x ≡ y → Earlier xs ys ⊎ ((xs ≡ ys) ⊎ Earlier ys xs) → Earlier (x ∷ xs) (y ∷ ys) ⊎ (((x ∷ xs) ≡ (y ∷ ys)) ⊎ Earlier (y ∷ ys) (x ∷ xs))
     same q (inl e) = inl (inr (q, e))
@@ -49,7 +68,9 @@ ordered (x ∷ xs) (y ∷ ys) e = elim (decLt x y) [ yes l ↦ inl (inl l) | no 
 -- Number: a number names one rule
 abbrev ofNumber : ℕ → Number
 ofNumber k =
-    pick (eqb k 12) n12 (pick (eqb k 13) n13 (pick (eqb k 14) n14 (pick (eqb k 15) n15 (pick (eqb k 16) n16 (pick (eqb k 17) n17 (pick (eqb k 18) n18 (pick (eqb k 19) n19 n20)))))))
+    pick (eqb k 12) n12 (pick (eqb k 13) n13 (pick (eqb k 14) n14
+    (pick (eqb k 15) n15 (pick (eqb k 16) n16 (pick (eqb k 17) n17
+    (pick (eqb k 18) n18 (pick (eqb k 19) n19 n20)))))))
 
 module _ (total : ℕ) (head : List ℕ) (f : File) where
   numbered : (n : Number) → ofNumber (ruleOf total head f n .number) ≡ n
@@ -87,7 +108,8 @@ module _ (total : ℕ) (head : List ℕ) (f : File) where
   just-fault : (n : Number) (r : ℕ) (m : Number) (q : ℕ) → J n r m q → F m q → F n r
   just-fault n r m q i w = subst (λ (q : ℕ). F n q) (i .1) (subst (λ (m : Number). F m q) (i .0) w)
 
-  just-within : (n : Number) (stage lap r : ℕ) → ruleOf total head f n .stage ≡ stage → ruleOf total head f n .lap r ≡ lap → Within total head f stage lap r (J n r)
+  just-within : (n : Number) (stage lap r : ℕ) → ruleOf total head f n .stage ≡ stage →
+      ruleOf total head f n .lap r ≡ lap → Within total head f stage lap r (J n r)
   just-within n stage lap r a b =
       record {
         stage-is = λ m q i. ap (λ (m : Number). ruleOf total head f m .stage) (i .0) ∙ a;
@@ -99,7 +121,8 @@ module _ (total : ℕ) (head : List ℕ) (f : File) where
   abbrev Two : Number → Number → ℕ → Number → ℕ → Type 0
   Two a b r m q = J a r m q ⊎ J b r m q
 
-  two-within : (a b : Number) (stage lap r : ℕ) → Within total head f stage lap r (J a r) → Within total head f stage lap r (J b r) → Within total head f stage lap r (Two a b r)
+  two-within : (a b : Number) (stage lap r : ℕ) → Within total head f stage lap r (J a r) →
+      Within total head f stage lap r (J b r) → Within total head f stage lap r (Two a b r)
   two-within a b stage lap r x y = record { stage-is = st; lap-is = la; row-is = ro }
     where
       st : (m : Number) (q : ℕ) → Two a b r m q → ruleOf total head f m .stage ≡ stage
@@ -179,7 +202,9 @@ module _ (total : ℕ) (head : List ℕ) (f : File) where
   abbrev Stage : (ℕ → Number → ℕ → Type 0) → Number → ℕ → Type 0
   Stage In m q = Rows total head f In 0 (length (f .items)) m q
 
-  stage-examined : (g : ℕ → Item → Answer (Unit {0})) (In : ℕ → Number → ℕ → Type 0) (stage lap : ℕ) → ((r : ℕ) → Within total head f stage lap r (In r)) → ((r : ℕ) → r < length (f .items) → Ex (g r (itemAt f r)) (In r)) → Ex (inOrder g 0 (f .items)) (Stage In)
+  stage-examined : (g : ℕ → Item → Answer (Unit {0})) (In : ℕ → Number → ℕ → Type 0) (stage lap : ℕ) →
+      ((r : ℕ) → Within total head f stage lap r (In r)) → ((r : ℕ) → r < length (f .items) →
+      Ex (g r (itemAt f r)) (In r)) → Ex (inOrder g 0 (f .items)) (Stage In)
   stage-examined g In stage lap w h = examines-rows total head f g In stage lap w 0 (f .items) (λ j l. rw zero-add (h j l))
 
   -- byDepth
@@ -191,9 +216,12 @@ module _ (total : ℕ) (head : List ℕ) (f : File) where
   depths-examined zero d = examines-none total head f _ (λ m q i w. let z = i .1 in omega arith)
   depths-examined (suc n) d =
       examines-as total head f _ _ _ to from
-      (examines-then total head f _ _ (Stage (At d)) (Laps n (suc d)) apart (stage-examined (rule20 s d) (At d) 6 d (at-within d) (λ r l. sized-examined r l d)) (depths-examined n (suc d)))
+      (examines-then total head f _ _ (Stage (At d)) (Laps n (suc d)) apart
+      (stage-examined (rule20 s d) (At d) 6 d (at-within d) (λ r l. sized-examined r l d))
+      (depths-examined n (suc d)))
     where
-      apart : (a : Number) (r : ℕ) (m : Number) (q : ℕ) → Stage (At d) a r → Laps n (suc d) m q → Earlier (turnOf total head f m q) (turnOf total head f a r) → ⊥
+      apart : (a : Number) (r : ℕ) (m : Number) (q : ℕ) → Stage (At d) a r → Laps n (suc d) m q →
+          Earlier (turnOf total head f m q) (turnOf total head f a r) → ⊥
       apart a r m q i j y =
           let x = at-within d (0 + i .0) in
           let z = at-within (suc d + j .0) (0 + j .2 .0) in
@@ -228,8 +256,14 @@ module _ (total : ℕ) (head : List ℕ) (f : File) where
   laps-stage : IsStage 6 (Laps 17 0)
   laps-stage n r i = at-within (0 + i .0) (0 + i .2 .0) .stage-is n r (i .2 .2)
 
-  next-stage : (k : ℕ) (a b : Answer (Unit {0})) (A B : Number → ℕ → Type 0) → Ex a A × Below k A → Ex b B → IsStage k B → Ex (a >> b) (λ n r. A n r ⊎ B n r) × Below (suc k) (λ n r. A n r ⊎ B n r)
-  next-stage k a b A B x y st = (examines-then total head f a b A B (λ n r m q i j e. let h = turn-stage total head f m q n r e in let g = x .1 n r i in let z = st m q j in omega arith) (x .0) y, low)
+  next-stage : (k : ℕ) (a b : Answer (Unit {0})) (A B : Number → ℕ → Type 0) → Ex a A × Below k A → Ex b B →
+      IsStage k B → Ex (a >> b) (λ n r. A n r ⊎ B n r) × Below (suc k) (λ n r. A n r ⊎ B n r)
+  next-stage k a b A B x y st = (
+    examines-then total head f a b A B
+        (λ n r m q i j e. let h = turn-stage total head f m q n r e in let g = x .1 n r i in let z = st m q j in
+        omega arith) (x .0) y,
+    low,
+  )
     where
       low : Below (suc k) (λ n r. A n r ⊎ B n r)
       low n r (inl i) = let g = x .1 n r i in omega arith
@@ -252,7 +286,9 @@ module _ (total : ℕ) (head : List ℕ) (f : File) where
   declared-within : (r : ℕ) → Within total head f 2 0 r (Two n15 n16 r)
   declared-within r = two-within n15 n16 2 0 r (just-within n15 2 0 r refl refl) (just-within n16 2 0 r refl refl)
 
-  early-examined : Ex (rule12 f >> inOrder (λ r i. rule13-14 total head f i) 0 (f .items) >> inOrder (λ r i. rule15-16 f i) 0 (f .items) >> inOrder (λ r i. rule17 total head f i) 0 (f .items) >> inOrder (rule18 s) 0 (f .items) >> inOrder (rule19 s) 0 (f .items)) Early × Below 6 Early
+  early-examined : Ex (rule12 f >> inOrder (λ r i. rule13-14 total head f i) 0 (f .items) >>
+      inOrder (λ r i. rule15-16 f i) 0 (f .items) >> inOrder (λ r i. rule17 total head f i) 0 (f .items) >>
+      inOrder (rule18 s) 0 (f .items) >> inOrder (rule19 s) 0 (f .items)) Early × Below 6 Early
   early-examined =
       next-stage 5 _ _ _ _
       (next-stage 4 _ _ _ _
@@ -305,13 +341,15 @@ module _ (total : ℕ) (head : List ℕ) (f : File) where
   shallow n r (inl i) h = let z = early-examined .1 n r i in absurd (omega arith)
   shallow n r (inr i) h = let z = at-within (0 + i .0) (0 + i .2 .0) .lap-is n r (i .2 .2) in let y = i .1 in omega arith
 
-  pub judged-first : (k p : ℕ) → judged total head f ≡ refuse k p → (n : Number) × (r : ℕ) × First total head f n r × (k ≡ ruleOf total head f n .number) × (p ≡ ruleOf total head f n .place r)
+  pub judged-first : (k p : ℕ) → judged total head f ≡ refuse k p → (n : Number) × (r : ℕ) × First total head f n r ×
+      (k ≡ ruleOf total head f n .number) × (p ≡ ruleOf total head f n .place r)
   judged-first k p e = (x .number, x .row, record { present = x .there; none-before = λ m q y w. by m q y w (asked-all m q w) }, x .number-is, x .place-is)
     where
       x : Finds total head f Asked k p
       x = judged-examined .first k p e
 
-      by : (m : Number) (q : ℕ) → Earlier (turnOf total head f m q) (turnOf total head f (x .number) (x .row)) → F m q → Asked m q ⊎ ((m ≡ n20) × (16 < depth s q)) → ⊥
+      by : (m : Number) (q : ℕ) → Earlier (turnOf total head f m q) (turnOf total head f (x .number) (x .row)) → F m q →
+          Asked m q ⊎ ((m ≡ n20) × (16 < depth s q)) → ⊥
       by m q y w (inl i) = x .none-before m q i y w
       by m q y w (inr d) =
           let st = ap (λ (m : Number). ruleOf total head f m .stage) (d .0) in
@@ -334,12 +372,15 @@ module _ (total : ℕ) (head : List ℕ) (f : File) where
   pub one-first : (n : Number) (r : ℕ) (m : Number) (q : ℕ) → First total head f n r → First total head f m q → (n ≡ m) × (r ≡ q)
   one-first n r m q x y = by (ordered (turnOf total head f n r) (turnOf total head f m q) refl)
     where
-      by : Earlier (turnOf total head f n r) (turnOf total head f m q) ⊎ ((turnOf total head f n r ≡ turnOf total head f m q) ⊎ Earlier (turnOf total head f m q) (turnOf total head f n r)) → (n ≡ m) × (r ≡ q)
+      by : Earlier (turnOf total head f n r) (turnOf total head f m q) ⊎
+          ((turnOf total head f n r ≡ turnOf total head f m q) ⊎
+          Earlier (turnOf total head f m q) (turnOf total head f n r)) → (n ≡ m) × (r ≡ q)
       by (inl e) = absurd (y .none-before n r e (x .present))
       by (inr (inl e)) = (one-number total head f n m (ap (λ (l : List ℕ). getD l 3 0) e), ap (λ (l : List ℕ). getD l 2 0) e)
       by (inr (inr e)) = absurd (x .none-before m q e (y .present))
 
-  pub first-judged : (n : Number) (r : ℕ) → First total head f n r → judged total head f ≡ refuse (ruleOf total head f n .number) (ruleOf total head f n .place r)
+  pub first-judged : (n : Number) (r : ℕ) → First total head f n r →
+      judged total head f ≡ refuse (ruleOf total head f n .number) (ruleOf total head f n .place r)
   first-judged n r x = by (judged total head f) refl
     where
       by : (m : Answer (Unit {0})) → judged total head f ≡ m → m ≡ refuse (ruleOf total head f n .number) (ruleOf total head f n .place r)
@@ -347,4 +388,6 @@ module _ (total : ℕ) (head : List ℕ) (f : File) where
       by (refuse k p) e =
           let y = judged-first k p e in
           let z = one-first (y .0) (y .1) n r (y .2) x in
-          ap (λ (k : ℕ). refuse k p) (y .3) ∙ ap (refuse (ruleOf total head f (y .0) .number)) (y .4) ∙ (ap (λ (n : Number). refuse (ruleOf total head f n .number) (ruleOf total head f n .place (y .1))) (z .0) ∙ ap (λ (r : ℕ). refuse (ruleOf total head f n .number) (ruleOf total head f n .place r)) (z .1))
+          ap (λ (k : ℕ). refuse k p) (y .3) ∙ ap (refuse (ruleOf total head f (y .0) .number)) (y .4) ∙
+          (ap (λ (n : Number). refuse (ruleOf total head f n .number) (ruleOf total head f n .place (y .1))) (z .0)
+          ∙ ap (λ (r : ℕ). refuse (ruleOf total head f n .number) (ruleOf total head f n .place r)) (z .1))

@@ -13,7 +13,21 @@ use Rattle.pictures.specs.Turn.{size, AllFit}
 use Rattle.pictures.specs.Recipe.{Recipe, Coded, Copy, Opaque, Tiles, Layers, Grid, Overlay}
 use Rattle.pictures.specs.Scene.{Picture, Scene, pictureAt, outputOf, firstInput, sameSize, goodSide, goodSize, allSize, covered, madeUp, goodSizes}
 use Rattle.pictures.proofs.SceneLaws.{same-size}
-use Rattle.faults.specs.Fault.{Any, Not, GoodSides, WrongSizes, declared-side, output-side, crop, copy, unequal, too-narrow, too-low, tiles-canvas, layers-canvas}
+use Rattle.faults.specs.Fault.{
+  Any,
+  Not,
+  GoodSides,
+  WrongSizes,
+  declared-side,
+  output-side,
+  crop,
+  copy,
+  unequal,
+  too-narrow,
+  too-low,
+  tiles-canvas,
+  layers-canvas,
+}
 use Rattle.faults.proofs.TellsLaws.{Tells, tells-as, tells-and, tells-most, tells-each}
 
 -- a test of what holds tells that it does not
@@ -42,7 +56,8 @@ tells-sides z = tells-lack (goodSize z) to from
         (both-and _ _ (le-leb _ _ (g .some-high)) (le-leb _ _ (g .high-fits)))
 
 tells-same : (a b : Size) → Tells (sameSize a b) (Not (a ≡ b))
-tells-same a b = tells-lack (sameSize a b) (same-size a b) (λ e. both-and _ _ (eq-eqb _ _ (ap (λ (z : Size). z .wide) e)) (eq-eqb _ _ (ap (λ (z : Size). z .high) e)))
+tells-same a b = tells-lack (sameSize a b) (same-size a b) (λ e. both-and _ _
+    (eq-eqb _ _ (ap (λ (z : Size). z .wide) e)) (eq-eqb _ _ (ap (λ (z : Size). z .high) e)))
 
 module _ (s : Scene) (p : Picture) where
   -- madeUp, by the recipe
@@ -62,8 +77,10 @@ module _ (s : Scene) (p : Picture) where
   tells-made Copy = tells-same _ _
   tells-made (Tiles g) =
       tells-and (allSize s (firstInput s p) (p .inputs)) _
-      (tells-each (λ (i : ℕ). sameSize (outputOf (pictureAt s i)) (firstInput s p)) _ (allSize s (firstInput s p)) refl (λ x xs. refl) (λ i. tells-same _ _) (p .inputs))
-      (tells-and (covered g (firstInput s p)) _ (tells-and (leb (g .wide) (firstInput s p .wide * g .columns)) _ (tells-most _ _) (tells-most _ _)) (tells-same _ _))
+      (tells-each (λ (i : ℕ). sameSize (outputOf (pictureAt s i)) (firstInput s p)) _ (allSize s (firstInput s p)) refl
+      (λ x xs. refl) (λ i. tells-same _ _) (p .inputs))
+      (tells-and (covered g (firstInput s p)) _ (tells-and (leb (g .wide) (firstInput s p .wide * g .columns)) _
+      (tells-most _ _) (tells-most _ _)) (tells-same _ _))
   tells-made (Layers o) = tells-same _ _
 
   made-wrong : (r : Recipe) → p .recipe ≡ r → Made r → WrongSizes s p
@@ -79,7 +96,8 @@ module _ (s : Scene) (p : Picture) where
   -- goodSizes; a transform that does not fit leaves no good output size
   pub tells-sizes : (goodSize (outputOf p) ≡ true → AllFit (p .turns) (p .declared)) → Tells (goodSizes s p) (WrongSizes s p)
   unfolding goodSizes
-  tells-sizes fit = tells-as to from (tells-and (madeUp s p (p .recipe)) _ (tells-made (p .recipe)) (tells-and (goodSize (p .declared)) _ (tells-sides _) (tells-sides _)))
+  tells-sizes fit = tells-as to from (tells-and (madeUp s p (p .recipe)) _ (tells-made (p .recipe))
+      (tells-and (goodSize (p .declared)) _ (tells-sides _) (tells-sides _)))
     where
       to : Made (p .recipe) ⊎ (Not (GoodSides (p .declared)) ⊎ Not (GoodSides (outputOf p))) → WrongSizes s p
       to (inl w) = made-wrong (p .recipe) refl w

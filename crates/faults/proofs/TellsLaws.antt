@@ -59,6 +59,8 @@ pub tells-most : (a b : ℕ) → Tells (leb a b) (b < a)
 tells-most a b = record { there = leb-false a b; absent = λ e w. let h = leb-true a b e in omega arith }
 
 -- a test of each of a list, by the two clauses that such a test has
-pub tells-each : {A : Type 0} (t : A → Bool) (P : A → Type 0) (all : List A → Bool) → all [] ≡ true → ((x : A) (xs : List A) → all (x ∷ xs) ≡ (t x && all xs)) → ((x : A) → Tells (t x) (P x)) → (l : List A) → Tells (all l) (Any P l)
+pub tells-each : {A : Type 0} (t : A → Bool) (P : A → Type 0) (all : List A → Bool) → all [] ≡ true →
+    ((x : A) (xs : List A) → all (x ∷ xs) ≡ (t x && all xs)) → ((x : A) → Tells (t x) (P x)) → (l : List A) →
+    Tells (all l) (Any P l)
 tells-each t P all e-none e-more k [] = record { there = λ e. untrue (sym e ∙ e-none); absent = λ e w. w }
 tells-each t P all e-none e-more k (x ∷ xs) = rw e-more (tells-and (t x) (all xs) (k x) (tells-each t P all e-none e-more k xs))

@@ -55,7 +55,8 @@ pub data WrongBytes (st : Store) (l : Location) (type : ℕ) : Type 0 where
 -- 15: "image item protected, or with an essential property of unknown type"
 pub data NotReadable (f : File) (i : Item) : Type 0 where
   protected : Not (i .protection ≡ 0) → NotReadable f i
-  unknown : Any (λ (a : Association). (a .essential ≡ true) × (knownProperty (kindOf (propertyAt f (a .index))) ≡ false)) (associationsOf f (i .id)) → NotReadable f i
+  unknown : Any (λ (a : Association). (a .essential ≡ true) ×
+      (knownProperty (kindOf (propertyAt f (a .index))) ≡ false)) (associationsOf f (i .id)) → NotReadable f i
 
 -- 16: "image item without exactly one `ispe` association, or `ispe` after a transform"; ks the types of its properties in association order
 pub data WrongIspe (ks : List ℕ) : Type 0 where
@@ -69,14 +70,18 @@ pub record BodyIs (st : Store) (l : Location) (b : List ℕ) : Type 0 where
   pub inside : l .base + extent .offset + extent .size ≤ length (st .known)
   pub bytes : b ≡ take (extent .size) (drop (l .base + extent .offset) (st .known))
 
--- 17: "derivation inputs or body wrong"; ts the item's `dimg` targets. "Only derived items have `dimg`; inputs are image items. `iden`: one input, no extents."; "Inputs = rows × columns"; "a signed (x, y) offset per input, at least one input"
+-- 17: "derivation inputs or body wrong"; ts the item's `dimg` targets. "Only derived items have `dimg`; inputs are
+-- image items. `iden`: one input, no extents."; "Inputs = rows × columns"; "a signed (x, y) offset per input, at least
+-- one input"
 pub data WrongDerivation (f : File) (st : Store) (l : Location) (type : ℕ) (ts : List ℕ) : Type 0 where
   not-derived : derived type ≡ false → Not (ts ≡ []) → WrongDerivation f st l type ts
   no-picture : derived type ≡ true → Any (λ (t : ℕ). image (itemAt f (rowOf t (f .items)) .type) ≡ false) ts → WrongDerivation f st l type ts
   copy-inputs : type ≡ iden → Not (length ts ≡ 1) → WrongDerivation f st l type ts
   copy-extents : type ≡ iden → Not (l .extents ≡ []) → WrongDerivation f st l type ts
-  no-tiles : type ≡ grid → ((b : List ℕ) (g : Grid) → BodyIs st l b → grid-form .Spells b g → length ts ≡ g .rows * g .columns → ⊥) → WrongDerivation f st l type ts
-  no-layers : type ≡ iovl → ((b : List ℕ) (o : Overlay) → BodyIs st l b → iovl-form (length ts) .Spells b o → 0 < length ts → ⊥) → WrongDerivation f st l type ts
+  no-tiles : type ≡ grid → ((b : List ℕ) (g : Grid) → BodyIs st l b → grid-form .Spells b g →
+      length ts ≡ g .rows * g .columns → ⊥) → WrongDerivation f st l type ts
+  no-layers : type ≡ iovl → ((b : List ℕ) (o : Overlay) → BodyIs st l b → iovl-form (length ts) .Spells b o →
+      0 < length ts → ⊥) → WrongDerivation f st l type ts
 
 -- "Every width and height is 1 to 65,535."
 pub record GoodSides (s : Size) : Type 0 where
@@ -85,10 +90,13 @@ pub record GoodSides (s : Size) : Type 0 where
   pub some-high : 1 ≤ s .high
   pub high-fits : s .high ≤ 65535
 
--- 20: "sizes wrong". "`ispe` equals the reconstructed size"; "equal in size; tile width × columns at least the canvas width, likewise height"; a `clap` that does not fit
+-- 20: "sizes wrong". "`ispe` equals the reconstructed size"; "equal in size; tile width × columns at least the canvas
+-- width, likewise height"; a `clap` that does not fit
 pub data WrongSizes (s : Scene) (p : Picture) : Type 0 where
   declared-side : Not (GoodSides (p .declared)) → WrongSizes s p
   output-side : Not (GoodSides (outputOf p)) → WrongSizes s p
+  -- a crop that does not fit, or whose edges are no whole numbers: such a `clap` decodes to `Misfit` (pictures/specs/Decode),
+  -- which fits no size
   crop : Not (AllFit (p .turns) (p .declared)) → WrongSizes s p
   copy : p .recipe ≡ Copy → Not (p .declared ≡ firstInput s p) → WrongSizes s p
   unequal : (g : Grid) → p .recipe ≡ Tiles g → Any (λ (i : ℕ). Not (outputOf (pictureAt s i) ≡ firstInput s p)) (p .inputs) → WrongSizes s p
@@ -97,7 +105,10 @@ pub data WrongSizes (s : Scene) (p : Picture) : Type 0 where
   tiles-canvas : (g : Grid) → p .recipe ≡ Tiles g → Not (p .declared ≡ size (g .wide) (g .high)) → WrongSizes s p
   layers-canvas : (o : Overlay) → p .recipe ≡ Layers o → Not (p .declared ≡ size (o .wide) (o .high)) → WrongSizes s p
 
--- A row of the table: its number; its turn in the "Order of reading", where `stage` counts "Then 12. Then for each item in table order 13 before 14; then for each image item 15 before 16; then 17 for each item; 18 and then 19 ..; then 20", and `lap` is the depth for 20, "by rising depth"; how many rows it is asked of; the place, by row; and the fault itself.
+-- A row of the table: its number; its turn in the "Order of reading", where `stage` counts "Then 12. Then for each item
+-- in table order 13 before 14; then for each image item 15 before 16; then 17 for each item; 18 and then 19 ..; then
+-- 20", and `lap` is the depth for 20, "by rising depth"; how many rows it is asked of; the place, by row; and the fault
+-- itself.
 pub record Rule : Type 1 where
   pub number : ℕ
   pub stage : ℕ

@@ -23,7 +23,8 @@ module _ (s : List ℕ) (place base : ℕ) where
   unfolding items
   items-gone n p e = lead-reads iinf-count place s _ base ∙ reads-refused iinf-count place s _ n p e
 
-  items-from : (n at : ℕ) → at ≤ length s → iinf-count .read place s ≡ got n (drop at s) → items place base s ≡ exactly infe-step place n (base + at) [] (drop at s)
+  items-from : (n at : ℕ) → at ≤ length s → iinf-count .read place s ≡ got n (drop at s) →
+      items place base s ≡ exactly infe-step place n (base + at) [] (drop at s)
   unfolding items
   items-from n at h e =
       let z : length s - length (drop at s) ≡ at = rw length-drop (omega arith) in
@@ -53,5 +54,8 @@ module _ (s : List ℕ) (place base : ℕ) where
       items-counted : items place base s ≡ exactly infe-step place n (base + from) [] (drop from s)
       items-counted = let k = counted in items-from n from (k .1) (k .0)
 
-      pub items-read : (r : ItemsRead) (t u : List ℕ) → (r ≡ toldItems (exactly infe-step place n (base + from) [] (drop from s))) × Stored (exactly infe-step place n (base + from) [] (drop from s)) t u → (r ≡ toldItems (items place base s)) × ItemsLeft s place base t u
+      pub items-read : (r : ItemsRead) (t u : List ℕ) →
+          (r ≡ toldItems (exactly infe-step place n (base + from) [] (drop from s))) ×
+          Stored (exactly infe-step place n (base + from) [] (drop from s)) t u → (r ≡ toldItems (items place base s)) ×
+          ItemsLeft s place base t u
       items-read r t u h = (h .0 ∙ sym (ap toldItems items-counted), left-by _ t u items-counted (h .1))

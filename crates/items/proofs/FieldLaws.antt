@@ -13,7 +13,19 @@ use Rattle.fields.specs.Field.{beAt}
 use Rattle.fields.specs.Lists.{member}
 use Rattle.boxes.specs.Answer.{ok, refuse}
 use Rattle.forms.specs.Form.{Form, got, give, demand, field, front, _>>=_, _>>_}
-use Rattle.forms.proofs.StepLaws.{reads, front-reads, read-reads, reads-got, reads-refused, reads-bind, reads-field, reads-short, reads-yes, reads-no, reads-give}
+use Rattle.forms.proofs.StepLaws.{
+  reads,
+  front-reads,
+  read-reads,
+  reads-got,
+  reads-refused,
+  reads-bind,
+  reads-field,
+  reads-short,
+  reads-yes,
+  reads-no,
+  reads-give,
+}
 use Rattle.contents.specs.Full.{Full, full, between, upto, idBytes}
 use Rattle.contents.specs.Iinf.{Item, idsOf, infe-form, iinf-count}
 
@@ -27,7 +39,8 @@ module _ (before : List Item) (p : ℕ) (s : List ℕ) where
   unfolding infe-form
   infe-gone n q e = rw (front-reads, reads-bind) (reads-refused (full (between 2 3)) p s _ n q e)
 
-  module _ (v f w : ℕ) (room : 4 ≤ length s) (h : full (between 2 3) .read p s ≡ got (record { version = v; flags = f }) (drop 4 s)) (width : pick (eqb v 2) 2 4 ≡ w) where
+  module _ (v f w : ℕ) (room : 4 ≤ length s) (h : full (between 2 3) .read p s ≡ got (record { version = v; flags = f })
+      (drop 4 s)) (width : pick (eqb v 2) 2 4 ≡ w) where
     abbrev afterId : ℕ → Form Item
     afterId id = field 2 >>= (λ x. field 4 >>= (λ t. give (record { id = id; type = t; protection = x; hidden = f % 2 })))
 
@@ -54,7 +67,8 @@ module _ (before : List Item) (p : ℕ) (s : List ℕ) where
               | no m ↦ reads-short p s (4 + w) 2 _ l (omega (arith, m))
             ])
 
-        pub infe-is : 10 + w ≤ length s → front (infe-form before) p s ≡ ok (record { id = beAt s 4 w; type = beAt s (6 + w) 4; protection = beAt s (4 + w) 2; hidden = f % 2 })
+        pub infe-is : 10 + w ≤ length s → front (infe-form before) p s ≡ ok
+            (record { id = beAt s 4 w; type = beAt s (6 + w) 4; protection = beAt s (4 + w) 2; hidden = f % 2 })
         infe-is k =
             let z : 4 + w + 2 ≡ 6 + w = omega arith in
             rest-read

@@ -37,7 +37,8 @@ module _ (a : Answer (List Item)) (t u : List ℕ) (k : Kept t u) where
       record { kept = k; told = λ pl x js q r. h pl x r ∙ ap (λ (l : List Item). rawOf [] pl (withItems l) ++ x) (ok-inj is js (sym e ∙ q)) }
 
 -- rowPut: the table of the items so far becomes that of one more
-put-raw : (pl : Places) (x : List ℕ) (is : List Item) (i : Item) → length is < 256 → rowPut (rawOf [] pl (withItems is) ++ x) (length is) i ≡ rawOf [] pl (withItems (is ++ (i ∷ []))) ++ x
+put-raw : (pl : Places) (x : List ℕ) (is : List Item) (i : Item) → length is < 256 →
+    rowPut (rawOf [] pl (withItems is) ++ x) (length is) i ≡ rawOf [] pl (withItems (is ++ (i ∷ []))) ++ x
 unfolding rowPut
 put-raw pl x is i h = sym (raw-item [] pl x (omega arith) (withItems is) i refl refl refl h)
 
@@ -102,7 +103,8 @@ module _ (s : List ℕ) (from n place base : ℕ) (t₀ : List ℕ) where
           (ap read.Items k ∙ sym (ap toldItems e), stored-ok answer t₀ t (so .kept) (so .items) e (so .told))
 
     -- at one more box
-    module _ (h : i < n) (limit : n ≤ 256) (room : 11280 ≤ length t₀) (y : NextItem) (f : (before : List Item) → idsIn t i ≡ idsOf before → NextIs s at place base before y) where
+    module _ (h : i < n) (limit : n ≤ 256) (room : 11280 ≤ length t₀) (y : NextItem)
+        (f : (before : List Item) → idsIn t i ≡ idsOf before → NextIs s at place base before y) where
       more : answer ≡ exactlyFrom infe-step place base s (suc (n - (i + 1))) at (so .items)
       more = let e : n - i ≡ suc (n - (i + 1)) = omega arith in so .same ∙ ap (λ (k : ℕ). exactlyFrom infe-step place base s k at (so .items)) e
 
@@ -115,7 +117,9 @@ module _ (s : List ℕ) (from n place base : ℕ) (t₀ : List ℕ) where
         is-next : NextIs s at place base (so .items) (next.Is j end)
         is-next = subst (NextIs s at place base (so .items)) e (f (so .items) (so .ids))
 
-        pub stored : (u : List ℕ) (c : Bounds) (v : List ℕ) → v ≡ slotPut m i (j .id .0) → u ≡ rowPut t i (itemOf j) → (c .least ≤ b .least) × (c .least ≤ j .id .0) × (b .above ≤ c .above) × (j .id .0 < c .above) → So u end c v (i + 1)
+        pub stored : (u : List ℕ) (c : Bounds) (v : List ℕ) → v ≡ slotPut m i (j .id .0) → u ≡ rowPut t i (itemOf j) →
+            (c .least ≤ b .least) × (c .least ≤ j .id .0) × (b .above ≤ c .above) × (j .id .0 < c .above) →
+            So u end c v (i + 1)
         stored u c v ev eu w =
             let g = is-next in
             let fits : 16 + 16 * i < length t = omega (arith, so .kept .same-length) in
@@ -127,16 +131,21 @@ module _ (s : List ℕ) (from n place base : ℕ) (t₀ : List ℕ) where
               same = more ∙ g .2 (n - (i + 1));
               within = λ k l.
                   ⊎-elim
-                  (λ q. let z : idAt u k ≡ j .id .0 = ap (λ (v : ℕ). idAt u v) q ∙ ap (λ (v : List ℕ). idAt v i) eu ∙ put-id t i (itemOf j) fits in (omega arith, omega arith))
-                  (λ q. let z : idAt u k ≡ idAt t k = ap (λ (v : List ℕ). idAt v k) eu ∙ put-below t i (itemOf j) k q in let m = so .within k q in (omega arith, omega arith))
+                  (λ q. let z : idAt u k ≡ j .id .0 = ap (λ (v : ℕ). idAt u v) q ∙ ap (λ (v : List ℕ). idAt v i) eu ∙
+                  put-id t i (itemOf j) fits in (omega arith, omega arith))
+                  (λ q. let z : idAt u k ≡ idAt t k = ap (λ (v : List ℕ). idAt v k) eu ∙ put-below t i (itemOf j) k q in
+                  let m = so .within k q in (omega arith, omega arith))
                   (eq-or-lt-of-le {n = k} {m = i} (omega arith));
               slots = omega (arith, ap length ev, slot-length m i (j .id .0) (so .slots) (omega arith), so .slots);
               filled = λ k l.
                   rw ev (⊎-elim
-                  (λ q. let z : idAt u k ≡ j .id .0 = ap (λ (v : ℕ). idAt u v) q ∙ ap (λ (v : List ℕ). idAt v i) eu ∙ put-id t i (itemOf j) fits in rw z (slot-filled m i (j .id .0) (so .slots) (omega arith)))
-                  (λ q. let z : idAt u k ≡ idAt t k = ap (λ (v : List ℕ). idAt v k) eu ∙ put-below t i (itemOf j) k q in rw z (slot-still m i (j .id .0) (so .slots) (omega arith) (idAt t k) (so .filled k q)))
+                  (λ q. let z : idAt u k ≡ j .id .0 = ap (λ (v : ℕ). idAt u v) q ∙ ap (λ (v : List ℕ). idAt v i) eu ∙
+                  put-id t i (itemOf j) fits in rw z (slot-filled m i (j .id .0) (so .slots) (omega arith)))
+                  (λ q. let z : idAt u k ≡ idAt t k = ap (λ (v : List ℕ). idAt v k) eu ∙ put-below t i (itemOf j) k q in
+                  rw z (slot-still m i (j .id .0) (so .slots) (omega arith) (idAt t k) (so .filled k q)))
                   (eq-or-lt-of-le {n = k} {m = i} (omega arith)));
-              ids = ap (λ (v : List ℕ). idsIn v (i + 1)) eu ∙ ap (idsIn (rowPut t i (itemOf j))) (add-one i) ∙ put-ids t i (itemOf j) (so .items) fits (so .ids);
+              ids = ap (λ (v : List ℕ). idsIn v (i + 1)) eu ∙ ap (idsIn (rowPut t i (itemOf j))) (add-one i) ∙
+                  put-ids t i (itemOf j) (so .items) fits (so .ids);
               kept = subst (Kept t₀) (sym eu) (put-kept t i (itemOf j) t₀ (omega arith) (so .kept));
               told = λ pl x q.
                   eu

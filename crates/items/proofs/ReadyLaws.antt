@@ -22,5 +22,11 @@ items-ready place base s is e =
     record {
       count = refl;
       distinct = items-distinct s is l;
-      bounded = record { few-items = items-few s is l; few-extents = omega arith; few-properties = omega arith; few-associations = omega arith; few-targets = omega arith };
+      bounded = record {
+        few-items = items-few s is l;
+        few-extents = omega arith;
+        few-properties = omega arith;
+        few-associations = omega arith;
+        few-targets = omega arith;
+      };
     }

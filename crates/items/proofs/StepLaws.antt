@@ -36,7 +36,8 @@ module _ {S : Type 0} (f : ℕ → S → List ℕ → Answer S) (p base : ℕ) (
       go (x ∷ r) l = refl
 
   module _ (n at : ℕ) (z : S) where
-    pub exactly-box : (kind body end : ℕ) → Stood s at kind body end → exactlyFrom (suc n) at z ≡ (f (base + at) z (take (end - at) (drop at s)) >>= (λ t. exactlyFrom n end t))
+    pub exactly-box : (kind body end : ℕ) → Stood s at kind body end →
+        exactlyFrom (suc n) at z ≡ (f (base + at) z (take (end - at) (drop at s)) >>= (λ t. exactlyFrom n end t))
     unfolding exactly oneBy
     exactly-box kind body end w =
         let i : at + sizeOf (drop at s) ≡ end = omega (arith, w .its-size, w .order) in
@@ -67,7 +68,9 @@ module _ {S : Type 0} (f : ℕ → S → List ℕ → Answer S) (p base : ℕ) (
     unfolding childAt
     sees =
         both Sees _ _ _ (λ o. sees-box)
-        (λ o. both Sees _ _ _ (λ e. let l : length (drop at s) ≡ 0 = eqb-true _ _ e in sees-end (few o (omega arith))) (λ e. both Sees _ _ _ (λ l. sees-spare (few o (ltb-true _ _ l))) (λ l. sees-bad (whole o (ltb-false _ _ l)))))
+        (λ o. both Sees _ _ _ (λ e. let l : length (drop at s) ≡ 0 = eqb-true _ _ e in sees-end (few o (omega arith)))
+        (λ e. both Sees _ _ _ (λ l. sees-spare (few o (ltb-true _ _ l)))
+        (λ l. sees-bad (whole o (ltb-false _ _ l)))))
 
     pub exactly-bad : childAt s at ≡ child.Bad → exactlyFrom (suc n) at z ≡ refuse 3 (base + at)
     exactly-bad e = go (subst Sees e sees)

@@ -48,7 +48,13 @@ module _ (m : List ℕ) (r x : ℕ) (e : 768 ≤ length m) (h : r < 256) where
     where
       by : (t : Bool) → eqb (slotOf y) (slotOf x) ≡ t → 0 < getD (slotPut m r x) (slotOf y) 0
       by true q = subst (λ (k : ℕ). 0 < getD (slotPut m r x) k 0) (sym (eqb-true _ _ q)) slot-filled
-      by false q = omega (arith, g, getD-set-other (set m (512 + r) (getD m (slotOf x) 0)) (slotOf x) (slotOf y) (r + 1) 0 (eqb-false _ _ q), getD-set-other m (512 + r) (slotOf y) (getD m (slotOf x) 0) 0 (λ q. omega arith))
+      by false q = omega (
+        arith,
+        g,
+        getD-set-other (set m (512 + r) (getD m (slotOf x) 0)) (slotOf x) (slotOf y) (r + 1)
+            0 (eqb-false _ _ q),
+        getD-set-other m (512 + r) (slotOf y) (getD m (slotOf x) 0) 0 (λ q. omega arith),
+      )
 
 -- rowPut
 module _ (t : List ℕ) (r : ℕ) (i : Item) where
@@ -82,7 +88,8 @@ module _ (t : List ℕ) (r : ℕ) (i : Item) where
 
   pub put-below : (k : ℕ) → k < r → idAt (rowPut t r i) k ≡ idAt t k
   put-below k h =
-      put-other (16 + 16 * k) _ (λ q. omega arith) (λ q. omega arith) (λ q. omega arith) (getD-set-other t (16 + 16 * r) (16 + 16 * k) (i .id) 0 (λ q. omega arith))
+      put-other (16 + 16 * k) _ (λ q. omega arith) (λ q. omega arith) (λ q. omega arith)
+      (getD-set-other t (16 + 16 * r) (16 + 16 * k) (i .id) 0 (λ q. omega arith))
 
   pub put-id : 16 + 16 * r < length t → idAt (rowPut t r i) r ≡ i .id
   put-id h = put-other (16 + 16 * r) _ (λ q. omega arith) (λ q. omega arith) (λ q. omega arith) (getD-set-same t (16 + 16 * r) (i .id) 0 h)

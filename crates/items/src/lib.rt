@@ -46,7 +46,9 @@ const NO_BOUNDS: Bounds = Bounds {
     above: 0,
 };
 
-// Whether an ID is that of one of the first n rows, all of whose IDs lie in bounds and have their slots filled: most writers' IDs rise, some writers' fall, and of those in no order few fall into a slot that is filled. Then no row is looked at.
+// Whether an ID is that of one of the first n rows, all of whose IDs lie in bounds and have their slots filled: most
+// writers' IDs rise, some writers' fall, and of those in no order few fall into a slot that is filled. Then no row is
+// looked at.
 fn is_taken(table: &[u32], n: usize, id: ItemId, bounds: Bounds, slots: &[u32]) -> bool
     requires { ⌜ Filling (now table) n bounds (now slots) ⌝ }
     ensures { λ r. ⌜ r ≡ member (id .0) (idsIn (now (table .entry)) n) ⌝ }
@@ -80,7 +82,9 @@ fn read_info(
     slots: &[u32],
 ) -> InfeRead
     requires { ⌜ (4 ≤ length (now s)) × ((w ≡ 2) ⊎ (w ≡ 4)) × Filling (now table) n bounds (now slots) ⌝ }
-    ensures { λ r. ⌜ ((v : ℕ) → full (between 2 3) .read place (now (s .entry)) ≡ got (record { version = v; flags = flags }) (drop 4 (now (s .entry))) → pick (eqb v 2) 2 4 ≡ w → InfeIs (idsIn (now (table .entry)) n) (now (s .entry)) place r) ⌝ }
+    ensures { λ r. ⌜ ((v : ℕ) → full (between 2 3) .read place (now (s .entry)) ≡ got
+        (record { version = v; flags = flags }) (drop 4 (now (s .entry))) → pick (eqb v 2) 2 4 ≡ w →
+        InfeIs (idsIn (now (table .entry)) n) (now (s .entry)) place r) ⌝ }
 {
     if s.len() < 4 + w {
         return InfeRead::Refused(Refusal { number: 8, place });
@@ -249,7 +253,8 @@ fn read_count(s: &[u8], place: u64) -> CountRead
 // The count behind the version and flags, w bytes wide.
 fn count_of(s: &[u8], w: usize, place: u64) -> CountRead
     requires { ⌜ (4 ≤ length (now s)) × ((w ≡ 2) ⊎ (w ≡ 4)) ⌝ }
-    ensures { λ r. ⌜ ((h : Full) → full (upto 1) .read place (now (s .entry)) ≡ got h (drop 4 (now (s .entry))) → idBytes (h .version) ≡ w → CountIs (now (s .entry)) place r) ⌝ }
+    ensures { λ r. ⌜ ((h : Full) → full (upto 1) .read place (now (s .entry)) ≡ got h (drop 4 (now (s .entry))) →
+        idBytes (h .version) ≡ w → CountIs (now (s .entry)) place r) ⌝ }
 {
     if s.len() < 4 + w {
         return CountRead::Refused(Refusal { number: 8, place });
@@ -274,7 +279,8 @@ fn fill_items(
     table: &mut [u32],
     slots: &mut [u32],
 ) -> ItemsRead
-    requires { ⌜ (11280 ≤ length (now table)) × (768 ≤ length (now slots)) × (base + length (now s) < 18446744073709551616) × (from ≤ length (now s)) × (n ≤ 256) ⌝ }
+    requires { ⌜ (11280 ≤ length (now table)) × (768 ≤ length (now slots)) ×
+        (base + length (now s) < 18446744073709551616) × (from ≤ length (now s)) × (n ≤ 256) ⌝ }
     ensures { λ r. ⌜ r ≡ toldItems (exactly infe-step place n (base + from) [] (drop from (now (s .entry)))) ⌝ }
     ensures { λ _. ⌜ Stored (exactly infe-step place n (base + from) [] (drop from (now (s .entry)))) (now (table .entry)) (now (table .exit)) ⌝ }
 {
@@ -319,7 +325,8 @@ pub fn read_items(
     match c {
         CountRead::Refused(r) => ItemsRead::Refused(r),
         CountRead::Is { count, at } => {
-            // Two calls, one for each width of the count: of a function with one call the compiler makes a part of its caller, and reading becomes one function that keeps its counters in memory.
+            // Two calls, one for each width of the count: of a function with one call the compiler makes a part of its
+            // caller, and reading becomes one function that keeps its counters in memory.
             if at == 6 {
                 return fill_items(s, 6, count, place, base, table, slots);
             }

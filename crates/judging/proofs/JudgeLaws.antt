@@ -57,10 +57,12 @@ module _ (total : ℕ) (head : List ℕ) (f : File) where
 pub rowed-resolved : (t rows head : List ℕ) (pl : Places) (f : File) → TableOf t head pl f → Rowed t rows → Resolved t rows f
 rowed-resolved t rows head pl f v h k l =
     let id = getD t (7184 + k) 0 in
-    told-at id (f .items) (record { 0 = getD rows k 0 }) (found-told v id (getD t 0 0) (At (record { 0 = getD rows k 0 })) (v .items) (h k (omega (arith, v .targets)))) .0
+    told-at id (f .items) (record { 0 = getD rows k 0 }) (found-told v id (getD t 0 0)
+    (At (record { 0 = getD rows k 0 })) (v .items) (h k (omega (arith, v .targets)))) .0
 
 -- what is refused leaves nothing to say of the table
-pub refused-by : (head : List ℕ) (total : ℕ) (f : File) (x : List ℕ) (y : Refusal) (u : List ℕ) → Refused y ≡ toldJudged (judged total head f) → JudgedBy head total f x (Refused y) u
+pub refused-by : (head : List ℕ) (total : ℕ) (f : File) (x : List ℕ) (y : Refusal) (u : List ℕ) →
+    Refused y ≡ toldJudged (judged total head f) → JudgedBy head total f x (Refused y) u
 unfolding toldJudged
 refused-by head total f x y u e = record { answer = e; left = λ o. let z : _≡_ {A = ℕ} 0 1 = cc in absurd (omega arith) }
 
@@ -83,12 +85,14 @@ module _ (head t x : List ℕ) (total idat : ℕ) (f : File) (w : Read t head to
   -- 12
   pub primary-off : (p : ℕ) → false ≡ goodPrimary f → p ≡ f .primary → Refused (record { number = 12; place = p }) ≡ toldJudged (judged total head f)
   unfolding rule12 check toldJudged
-  primary-off p e q = rw q (told-off (rule12 f) (placedJudged total head f >> restJudged total head f) _ (ap toldJudged (ap (check 12 (f .primary)) (sym e)))) ∙ ap toldJudged (sym (judged-parts total head f))
+  primary-off p e q = rw q (told-off (rule12 f) (placedJudged total head f >> restJudged total head f) _
+      (ap toldJudged (ap (check 12 (f .primary)) (sym e)))) ∙ ap toldJudged (sym (judged-parts total head f))
 
   module _ (primary : true ≡ goodPrimary f) where
     judged-on : judged total head f ≡ (placedJudged total head f >> restJudged total head f)
     unfolding rule12 check _>>_
-    judged-on = judged-parts total head f ∙ ap (λ (m : Answer (Unit {0})). m >> (placedJudged total head f >> restJudged total head f)) (ap (check 12 (f .primary)) (sym primary))
+    judged-on = judged-parts total head f ∙ ap (λ (m : Answer (Unit {0})). m >>
+        (placedJudged total head f >> restJudged total head f)) (ap (check 12 (f .primary)) (sym primary))
 
     -- 13 and 14
     pub placed-off : (y : Refusal) → toldJudged (placedJudged total head f) ≡ Refused y → Refused y ≡ toldJudged (judged total head f)
@@ -180,6 +184,7 @@ module _ (head t x : List ℕ) (total idat : ℕ) (f : File) (w : Read t head to
       pub rest-on : (j : Judged) → ((f : File) → Drawn u rows head total f → j ≡ toldJudged (picturesJudged total head f)) → RestBy head total f x j u
       rest-on j pictures =
           record {
-            answer = pictures f (drawn head t x total idat f w few placed fed u rows sized resolved) ∙ ap toldJudged (sym (declared-on ∙ told-on _ _ (sym derives ∙ good)));
+            answer = pictures f (drawn head t x total idat f w few placed fed u rows sized resolved) ∙
+                ap toldJudged (sym (declared-on ∙ told-on _ _ (sym derives ∙ good)));
             left = λ o. sized;
           }

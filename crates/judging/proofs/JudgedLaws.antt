@@ -51,33 +51,41 @@ told-good (ok tt) e = refl
 told-good (refuse n p) e = let z : _≡_ {A = ℕ} 0 1 = cc in absurd (omega arith)
 
 -- inOrder: a rule that every item keeps refuses nothing
-kept-order : (rule : ℕ → Item → Answer (Unit {0})) (r : ℕ) (items : List Item) → ((k : ℕ) → k < length items → rule (r + k) (getD items k noItem) ≡ ok tt) → inOrder rule r items ≡ ok tt
+kept-order : (rule : ℕ → Item → Answer (Unit {0})) (r : ℕ) (items : List Item) →
+    ((k : ℕ) → k < length items → rule (r + k) (getD items k noItem) ≡ ok tt) → inOrder rule r items ≡ ok tt
 unfolding inOrder _>>_
 kept-order rule r [] h = refl
 kept-order rule r (i ∷ is) h =
     let e = kept-order rule (suc r) is (λ k l. let z : suc r + k ≡ r + suc k = omega arith in rw z (h (suc k) (omega arith))) in
     rw (rw add-zero at (h 0 (omega arith))) e
 
-pub kept-all : (rule : ℕ → Item → Answer (Unit {0})) (f : File) → ((r : ℕ) → r < length (f .items) → rule r (itemAt f r) ≡ ok tt) → inOrder rule 0 (f .items) ≡ ok tt
+pub kept-all : (rule : ℕ → Item → Answer (Unit {0})) (f : File) →
+    ((r : ℕ) → r < length (f .items) → rule r (itemAt f r) ≡ ok tt) → inOrder rule 0 (f .items) ≡ ok tt
 kept-all rule f h = kept-order rule 0 (f .items) (λ k l. rw zero-add (h k l))
 
 -- inOrder: what refuses the item in row k, where every item before it keeps the rule
-refused-order : (rule : ℕ → Item → Answer (Unit {0})) (r : ℕ) (items : List Item) (k n p : ℕ) → k < length items → ((j : ℕ) → j < k → rule (r + j) (getD items j noItem) ≡ ok tt) → rule (r + k) (getD items k noItem) ≡ refuse n p
+refused-order : (rule : ℕ → Item → Answer (Unit {0})) (r : ℕ) (items : List Item) (k n p : ℕ) → k < length items →
+    ((j : ℕ) → j < k → rule (r + j) (getD items j noItem) ≡ ok tt) → rule (r + k) (getD items k noItem) ≡ refuse n p
     → inOrder rule r items ≡ refuse n p
 unfolding inOrder _>>_
 refused-order rule r [] k n p l h e = absurd (omega arith)
 refused-order rule r (i ∷ is) zero n p l h e = rw (rw add-zero at e)
 refused-order rule r (i ∷ is) (suc k) n p l h e =
-    let q = refused-order rule (suc r) is k n p (omega arith) (λ j m. let z : suc r + j ≡ r + suc j = omega arith in rw z (h (suc j) (omega arith))) (let z : suc r + k ≡ r + suc k = omega arith in rw z e) in
+    let q = refused-order rule (suc r) is k n p (omega arith) (λ j m. let z : suc r + j ≡ r + suc j = omega arith in
+    rw z (h (suc j) (omega arith))) (let z : suc r + k ≡ r + suc k = omega arith in rw z e) in
     rw (rw add-zero at (h 0 (omega arith))) q
 
-pub refused-at : (rule : ℕ → Item → Answer (Unit {0})) (f : File) (k n p : ℕ) → k < length (f .items) → ((r : ℕ) → r < k → rule r (itemAt f r) ≡ ok tt) → rule k (itemAt f k) ≡ refuse n p → inOrder rule 0 (f .items) ≡ refuse n p
+pub refused-at : (rule : ℕ → Item → Answer (Unit {0})) (f : File) (k n p : ℕ) → k < length (f .items) →
+    ((r : ℕ) → r < k → rule r (itemAt f r) ≡ ok tt) → rule k (itemAt f k) ≡ refuse n p →
+    inOrder rule 0 (f .items) ≡ refuse n p
 refused-at rule f k n p l h e = refused-order rule 0 (f .items) k n p l (λ r m. rw zero-add (h r m)) (rw zero-add e)
 
 -- the largest of g 0, g 1 .. so far, and one more
-pub none-larger : (g : ℕ → ℕ) (r a d b : ℕ) → ((j : ℕ) → j < r → j < 256 → g j ≤ a) → (r < 256 → d ≡ g r) → (a ≤ b) × (d ≤ b) → (j : ℕ) → j < r + 1 → j < 256 → g j ≤ b
+pub none-larger : (g : ℕ → ℕ) (r a d b : ℕ) → ((j : ℕ) → j < r → j < 256 → g j ≤ a) → (r < 256 → d ≡ g r) → (a ≤ b) ×
+    (d ≤ b) → (j : ℕ) → j < r + 1 → j < 256 → g j ≤ b
 none-larger g r a d b h e q j k l =
-    ⊎-elim (λ z. subst (λ (i : ℕ). g i ≤ b) (sym z) (omega (arith, e (omega arith), q .1))) (λ z. omega (arith, h j z l, q .0)) (eq-or-lt-of-le {n = j} {m = r} (omega arith))
+    ⊎-elim (λ z. subst (λ (i : ℕ). g i ≤ b) (sym z) (omega (arith, e (omega arith), q .1)))
+    (λ z. omega (arith, h j z l, q .0)) (eq-or-lt-of-le {n = j} {m = r} (omega arith))
 
 -- 18 and 19
 module _ (total : ℕ) (head : List ℕ) (f : File) where
@@ -90,16 +98,22 @@ module _ (total : ℕ) (head : List ℕ) (f : File) where
   deep-all h = kept-all (ruleBy Deep total head f) f (λ r m. deep-kept total head f r (itemAt f r) (h r m))
 
   pub itself-grounded : {t rows : List ℕ} → Drawn t rows head total f → (n : ℕ) → n ≡ getD t 0 0
-      → ((s : Scene) → length s ≡ n → InputsAre t rows s → (r : ℕ) → r < n → derivesItself s r ≡ false) → Good ≡ toldJudged (inOrder (ruleBy Itself total head f) 0 (f .items))
+      → ((s : Scene) → length s ≡ n → InputsAre t rows s → (r : ℕ) → r < n → derivesItself s r ≡ false) →
+      Good ≡ toldJudged (inOrder (ruleBy Itself total head f) 0 (f .items))
   unfolding toldJudged
   itself-grounded {t} {rows} v n e h =
       let i = inputs-are total head f t rows (placesIn total head) (v .view) (v .resolved) (v .fed) in
-      ap toldJudged (sym (itself-all (λ r m. h (sceneOf total head f) (scene-long total head f ∙ sym (e ∙ v .view .items)) i r (omega (arith, e, v .view .items)))))
+      ap toldJudged (sym (itself-all (λ r m. h (sceneOf total head f)
+      (scene-long total head f ∙ sym (e ∙ v .view .items)) i r (omega (arith, e, v .view .items)))))
 
   -- the depths of the scene by the table's words
   module _ {t rows : List ℕ} (v : Drawn t rows head total f) (w : ℕ) (h : NoneDeeper t w) where
     none-over : (r : ℕ) → r < length (f .items) → depth (sceneOf total head f) r ≤ w
-    none-over r m = omega (arith, deep-word total head f v r m (recordWord t r 14) refl, h r (omega (arith, v .view .items)) (omega (arith, v .view .bounded .few-items)))
+    none-over r m = omega (
+      arith,
+      deep-word total head f v r m (recordWord t r 14) refl,
+      h r (omega (arith, v .view .items)) (omega (arith, v .view .bounded .few-items)),
+    )
 
     -- where nothing lies over 16 deep, 18 and 19 refuse nothing
     pub pictures-shallow : w ≤ 16 → picturesJudged total head f ≡ byDepth (sceneOf total head f) (f .items) 17 0
@@ -108,7 +122,8 @@ module _ (total : ℕ) (head : List ℕ) (f : File) where
 
 -- inOrder: a rule that refuses nothing holds of each item
 module _ (total : ℕ) (head : List ℕ) (f : File) where
-  each : (rule : Rule) → inOrder (ruleBy rule total head f) 0 (f .items) ≡ ok tt → (r : ℕ) → r < length (f .items) → ruleBy rule total head f r (itemAt f r) ≡ ok tt
+  each : (rule : Rule) → inOrder (ruleBy rule total head f) 0 (f .items) ≡ ok tt → (r : ℕ) → r < length (f .items) →
+      ruleBy rule total head f r (itemAt f r) ≡ ok tt
   each rule e r h = rw zero-add at (in-order-each (ruleBy rule total head f) 0 (f .items) e r h)
 
   pub placed-all : inOrder (ruleBy Placed total head f) 0 (f .items) ≡ ok tt → AllPlaced total head f

@@ -1,6 +1,7 @@
 -- 20 by rising depth is the misfit of the least depth, the first row among those. Assumes nothing.
 --   misfit s f r        the item in row r is a picture of the scene s, and its sizes are wrong
---   Least s f k d b     among the first k rows: no misfit is less than d deep, and row b is the first of those that are d deep; d is 17 where none is less deep than that
+-- Least s f k d b     among the first k rows: no misfit is less than d deep, and row b is the first of those that are d
+-- deep; d is 17 where none is less deep than that
 use Prim.Native.Nat.{ℕ, zero, suc, _+_, _<_, _≤_}
 use native.Mathlib.Nat.{eq-or-lt-of-le}
 use native.Mathlib.Omega.{arith}
@@ -43,7 +44,8 @@ module _ (s : Scene) (f : File) where
       (λ e. let w = and-both (image (itemAt f r .type)) (eqb (depth s r) d) e in by (goodSizes s (pictureAt s r)) refl (w .0) (eqb-true (depth s r) d (w .1)))
       (λ e. refl)
     where
-      by : (b : Bool) → goodSizes s (pictureAt s r) ≡ b → image (itemAt f r .type) ≡ true → depth s r ≡ d → check 20 (itemAt f r .id) (goodSizes s (pictureAt s r)) ≡ ok tt
+      by : (b : Bool) → goodSizes s (pictureAt s r) ≡ b → image (itemAt f r .type) ≡ true → depth s r ≡ d →
+          check 20 (itemAt f r .id) (goodSizes s (pictureAt s r)) ≡ ok tt
       by true e i q = ap (check 20 (itemAt f r .id)) e
       by false e i q = absurd (h (both-and _ _ i (ap not e)) q)
 
@@ -51,7 +53,9 @@ module _ (s : Scene) (f : File) where
   unfolding rule20 check
   size-refused d r m e =
       let w = and-both (image (itemAt f r .type)) (not (goodSizes s (pictureAt s r))) m in
-      pick-yes (check 20 (itemAt f r .id) (goodSizes s (pictureAt s r))) (ok tt) (both-and _ _ (w .0) (eq-eqb (depth s r) d e)) ∙ ap (check 20 (itemAt f r .id)) (not-true (goodSizes s (pictureAt s r)) (w .1))
+      pick-yes (check 20 (itemAt f r .id) (goodSizes s (pictureAt s r))) (ok tt)
+      (both-and _ _ (w .0) (eq-eqb (depth s r) d e)) ∙
+      ap (check 20 (itemAt f r .id)) (not-true (goodSizes s (pictureAt s r)) (w .1))
 
   -- byDepth: n depths from d on, no misfit so little deep
   none-within : (n d : ℕ) → ((r : ℕ) → r < length (f .items) → misfit r ≡ true → d + n ≤ depth s r) → byDepth s (f .items) n d ≡ ok tt
@@ -64,7 +68,8 @@ module _ (s : Scene) (f : File) where
   module _ (least b : ℕ) (l : b < length (f .items)) (wrong : misfit b ≡ true) (deep : depth s b ≡ least)
       (none : (r : ℕ) → r < length (f .items) → misfit r ≡ true → least ≤ depth s r) (first : (r : ℕ) → r < b → misfit r ≡ true → least < depth s r) where
     at-least : inOrder (rule20 s least) 0 (f .items) ≡ refuse 20 (itemAt f b .id)
-    at-least = refused-at (rule20 s least) f b 20 (itemAt f b .id) l (λ r h. size-kept least r (λ m e. absurd (omega (arith, first r h m, e)))) (size-refused least b wrong deep)
+    at-least = refused-at (rule20 s least) f b 20 (itemAt f b .id) l
+        (λ r h. size-kept least r (λ m e. absurd (omega (arith, first r h m, e)))) (size-refused least b wrong deep)
 
     one-within : (n d : ℕ) → d ≤ least → least < d + n → byDepth s (f .items) n d ≡ refuse 20 (itemAt f b .id)
     unfolding byDepth _>>_
@@ -72,7 +77,8 @@ module _ (s : Scene) (f : File) where
     one-within (suc n) d h k =
         ⊎-elim
         (λ e. ap (λ (a : Answer (Unit {0})). a >> byDepth s (f .items) n (suc d)) (ap (λ (x : ℕ). inOrder (rule20 s x) 0 (f .items)) e ∙ at-least))
-        (λ e. rw (kept-all (rule20 s d) f (λ r i. size-kept d r (λ m q. absurd (omega (arith, none r i m, q))))) (one-within n (suc d) (omega arith) (omega arith)))
+        (λ e. rw (kept-all (rule20 s d) f (λ r i. size-kept d r (λ m q. absurd (omega (arith, none r i m, q)))))
+        (one-within n (suc d) (omega arith) (omega arith)))
         (eq-or-lt-of-le {n = d} {m = least} h)
 
 pub record Least (s : Scene) (f : File) (k d b : ℕ) : Type 0 where
@@ -95,7 +101,8 @@ module _ (s : Scene) (f : File) where
     least-other h =
         record {
           shallow = w .shallow;
-          none = λ r l m. ⊎-elim (λ z. subst (λ (i : ℕ). misfit s f i ≡ true → d ≤ depth s i) (sym z) h m) (λ z. w .none r z m) (eq-or-lt-of-le {n = r} {m = k} (omega arith));
+          none = λ r l m. ⊎-elim (λ z. subst (λ (i : ℕ). misfit s f i ≡ true → d ≤ depth s i) (sym z) h m)
+              (λ z. w .none r z m) (eq-or-lt-of-le {n = r} {m = k} (omega arith));
           first = w .first;
           found = λ h. let v = w .found h in (omega (arith, v .0), v .1, v .2);
         }
@@ -104,7 +111,8 @@ module _ (s : Scene) (f : File) where
     least-more e q l m =
         record {
           shallow = omega (arith, w .shallow);
-          none = λ r h n. ⊎-elim (λ z. subst (λ (i : ℕ). e ≤ depth s i) (sym z) (omega (arith, q))) (λ z. omega (arith, w .none r z n)) (eq-or-lt-of-le {n = r} {m = k} (omega arith));
+          none = λ r h n. ⊎-elim (λ z. subst (λ (i : ℕ). e ≤ depth s i) (sym z) (omega (arith, q)))
+              (λ z. omega (arith, w .none r z n)) (eq-or-lt-of-le {n = r} {m = k} (omega arith));
           first = λ r h n. omega (arith, w .none r h n);
           found = λ h. (omega arith, m, sym q);
         }
@@ -124,4 +132,5 @@ module _ (s : Scene) (f : File) where
         unfolding toldJudged
         least-named id i =
             let v = w .found h in
-            rw i (sym (ap toldJudged (one-within s f d b least-row (v .1) (v .2) (λ r l m. w .none r (omega arith) m) (w .first) 17 0 (omega arith) (omega arith))))
+            rw i (sym (ap toldJudged (one-within s f d b least-row (v .1) (v .2) (λ r l m. w .none r (omega arith) m)
+            (w .first) 17 0 (omega arith) (omega arith))))

@@ -53,7 +53,9 @@ module _ (rule : Rule) (total : ℕ) (head : List ℕ) (f : File) where
 
     pub order-off : (n ≡ 0 → ⊥) → (id : ℕ) → id ≡ itemAt f r .id → Refused (record { number = n; place = id }) ≡ toldJudged (from 0)
     unfolding toldJudged
-    order-off z id j = rw (j, i) (sym (ap toldJudged (e ∙ orders.order-off (ruleBy rule total head f) f k n h (rule-blames rule total head f k (itemAt f k)) told z)))
+    order-off z id j = rw (j, i) (sym (ap toldJudged
+        (e ∙ orders.order-off (ruleBy rule total head f) f k n h (rule-blames rule total head f k (itemAt f k)) told
+        z)))
 
 -- Ready
 module _ (t rows head : List ℕ) (total idat : ℕ) (f : File) where

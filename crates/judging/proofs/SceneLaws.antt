@@ -80,7 +80,9 @@ module _ (total : ℕ) (head : List ℕ) (f : File) where
     input-at : (j : ℕ) → j < length (targetsOf f (idOf f r)) → getD (pictureAt s r .inputs) j 0 ≡ rowOf (getD (targetsOf f (idOf f r)) j 0) (f .items)
     input-at j l = rw (inputs-of fed r h) (map-at (λ t. rowOf t (f .items)) (targetsOf f (idOf f r)) j l)
 
-    inputs-inside : ((j : ℕ) → j < length (targetsOf f (idOf f r)) → member (getD (targetsOf f (idOf f r)) j 0) (idsOf (f .items)) ≡ true) → All (λ (i : ℕ). i < length s) (pictureAt s r .inputs)
+    inputs-inside : ((j : ℕ) → j < length (targetsOf f (idOf f r)) →
+        member (getD (targetsOf f (idOf f r)) j 0) (idsOf (f .items)) ≡ true) →
+        All (λ (i : ℕ). i < length s) (pictureAt s r .inputs)
     inputs-inside listed =
         rw (inputs-of fed r h)
         (all-map (λ (i : ℕ). i < length s) (λ t. rowOf t (f .items)) (targetsOf f (idOf f r)) (λ j l. rw scene-long (row-listed (f .items) _ (listed j l))))

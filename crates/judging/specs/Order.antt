@@ -34,10 +34,12 @@ ruleBy Deep total head f r i = rule19 (sceneOf total head f) r i
 
 -- 18 to 20, and 15 to 20
 unfoldable pub picturesJudged : ℕ → List ℕ → File → Answer (Unit {0})
-picturesJudged total head f = inOrder (ruleBy Itself total head f) 0 (f .items) >> (inOrder (ruleBy Deep total head f) 0 (f .items) >> byDepth (sceneOf total head f) (f .items) 17 0)
+picturesJudged total head f = inOrder (ruleBy Itself total head f) 0 (f .items) >>
+    (inOrder (ruleBy Deep total head f) 0 (f .items) >> byDepth (sceneOf total head f) (f .items) 17 0)
 
 unfoldable pub restJudged : ℕ → List ℕ → File → Answer (Unit {0})
-restJudged total head f = inOrder (λ (r : ℕ) (i : Item). rule15-16 f i) 0 (f .items) >> (inOrder (ruleBy Derived total head f) 0 (f .items) >> picturesJudged total head f)
+restJudged total head f = inOrder (λ (r : ℕ) (i : Item). rule15-16 f i) 0 (f .items) >>
+    (inOrder (ruleBy Derived total head f) 0 (f .items) >> picturesJudged total head f)
 
 -- idat: where the content of `idat` ends in the head
 pub record Early (t rows head : List ℕ) (total idat : ℕ) (f : File) : Type 0 where

@@ -18,6 +18,7 @@ ghost use Rattle.derived.specs.Told.{Resolved};
 ghost use Rattle.sizing.specs.Drawn.{Drawn};
 ghost use Rattle.judging.specs.Order.{ruleBy, picturesJudged, Ready, NoneDeeper, toldJudged, Read, RestBy, JudgedBy};
 use boxes::Refusal;
+use placed::Ends;
 use sizing::Filled;
 use table::ItemRow;
 use table::Table;
@@ -39,7 +40,9 @@ pub enum Rule {
 
 // 18 for the item in a row. No picture that is at most 16 deep is derived from itself.
 fn itself_fault(table: &[u32], rows: &[u32], row: ItemRow) -> u32
-    ensures { λ r. ⌜ ((total : ℕ) (head : List ℕ) (f : File) → Drawn (now (table .entry)) (now (rows .entry)) head total f → row .0 < length (f .items) → r ≡ faultOf (rule18 (sceneOf total head f) (row .0) (itemAt f (row .0)))) ⌝ }
+    ensures { λ r. ⌜ ((total : ℕ) (head : List ℕ) (f : File) →
+        Drawn (now (table .entry)) (now (rows .entry)) head total f → row .0 < length (f .items) →
+        r ≡ faultOf (rule18 (sceneOf total head f) (row .0) (itemAt f (row .0)))) ⌝ }
 {
     if views::record_word(table, row, 14) <= 16 {
         return 0;
@@ -48,7 +51,7 @@ fn itself_fault(table: &[u32], rows: &[u32], row: ItemRow) -> u32
     if 256 < n {
         return 0;
     }
-    if depths::derives_itself(table, rows, n, row) {
+    if marks::derives_itself(table, rows, n, row) {
         return 18;
     }
     0
@@ -56,7 +59,8 @@ fn itself_fault(table: &[u32], rows: &[u32], row: ItemRow) -> u32
 
 // 19 for the item in a row.
 fn deep_fault(table: &[u32], row: ItemRow) -> u32
-    ensures { λ r. ⌜ ((total : ℕ) (head rows : List ℕ) (f : File) → Drawn (now (table .entry)) rows head total f → row .0 < length (f .items) → r ≡ faultOf (rule19 (sceneOf total head f) (row .0) (itemAt f (row .0)))) ⌝ }
+    ensures { λ r. ⌜ ((total : ℕ) (head rows : List ℕ) (f : File) → Drawn (now (table .entry)) rows head total f →
+        row .0 < length (f .items) → r ≡ faultOf (rule19 (sceneOf total head f) (row .0) (itemAt f (row .0)))) ⌝ }
 {
     if 16 < views::record_word(table, row, 14) {
         return 19;
@@ -66,7 +70,11 @@ fn deep_fault(table: &[u32], row: ItemRow) -> u32
 
 // Whether 20 refuses the item in a row: it is a picture, and its sizes are wrong.
 fn is_misfit(head: &[u8], table: &[u32], rows: &[u32], row: ItemRow) -> bool
-    ensures { λ r. ⌜ ((total : ℕ) (f : File) → Drawn (now (table .entry)) (now (rows .entry)) (now (head .entry)) total f → row .0 < length (f .items) → r ≡ (image (itemAt f (row .0) .type) && not (goodSizes (sceneOf total (now (head .entry)) f) (pictureAt (sceneOf total (now (head .entry)) f) (row .0))))) ⌝ }
+    ensures { λ r. ⌜ ((total : ℕ) (f : File) →
+        Drawn (now (table .entry)) (now (rows .entry)) (now (head .entry)) total f → row .0 < length (f .items) →
+        r ≡ (image (itemAt f (row .0) .type) &&
+        not (goodSizes (sceneOf total (now (head .entry)) f)
+        (pictureAt (sceneOf total (now (head .entry)) f) (row .0))))) ⌝ }
 {
     if !views::is_image(views::type_of(table, row)) {
         return false;
@@ -75,35 +83,26 @@ fn is_misfit(head: &[u8], table: &[u32], rows: &[u32], row: ItemRow) -> bool
 }
 
 // The number that a rule refuses the item in a row by, 0 where it does not.
-fn fault_of(
-    head: &[u8],
-    total: u64,
-    table: &[u32],
-    rows: &[u32],
-    idat: usize,
-    rule: Rule,
-    row: ItemRow,
-) -> u32
-    ensures { λ r. ⌜ ((f : File) → Ready rule (now (table .entry)) (now (rows .entry)) (now (head .entry)) total idat f → row .0 < length (f .items) → r ≡ faultOf (ruleBy rule total (now (head .entry)) f (row .0) (itemAt f (row .0)))) ⌝ }
+fn fault_of(head: &[u8], ends: Ends, table: &[u32], rows: &[u32], rule: Rule, row: ItemRow) -> u32
+    ensures { λ r. ⌜ ((f : File) →
+        Ready rule (now (table .entry)) (now (rows .entry)) (now (head .entry)) (ends .total) (ends .idat) f →
+        row .0 < length (f .items) → r ≡ faultOf
+        (ruleBy rule (ends .total) (now (head .entry)) f (row .0) (itemAt f (row .0)))) ⌝ }
 {
     match rule {
-        Rule::Placed => placed::place_fault(table, row, total, idat),
+        Rule::Placed => placed::place_fault(table, row, ends),
         Rule::Derived => derived::derived_fault(head, table, rows, row),
         Rule::Itself => itself_fault(table, rows, row),
         Rule::Deep => deep_fault(table, row),
     }
 }
 
-// The first item in table order that a rule refuses. No table of a file is shorter or has more items: the two tests spare every reader of a record its own.
-fn first_fault(
-    head: &[u8],
-    total: u64,
-    table: &[u32],
-    rows: &[u32],
-    idat: usize,
-    rule: Rule,
-) -> Judged
-    ensures { λ r. ⌜ ((f : File) → Ready rule (now (table .entry)) (now (rows .entry)) (now (head .entry)) total idat f → r ≡ toldJudged (inOrder (ruleBy rule total (now (head .entry)) f) 0 (f .items))) ⌝ }
+// The first item in table order that a rule refuses. No table of a file is shorter or has more items: the two tests
+// spare every reader of a record its own.
+fn first_fault(head: &[u8], ends: Ends, table: &[u32], rows: &[u32], rule: Rule) -> Judged
+    ensures { λ r. ⌜ ((f : File) →
+        Ready rule (now (table .entry)) (now (rows .entry)) (now (head .entry)) (ends .total) (ends .idat) f →
+        r ≡ toldJudged (inOrder (ruleBy rule (ends .total) (now (head .entry)) f) 0 (f .items))) ⌝ }
 {
     if table.len() < Table::WORDS {
         return Judged::Good;
@@ -115,7 +114,7 @@ fn first_fault(
     let mut k: usize = 0;
     while k < n {
         let row = views::row_at(table, k);
-        let number = fault_of(head, total, table, rows, idat, rule, row);
+        let number = fault_of(head, ends, table, rows, rule, row);
         if number != 0 {
             return Judged::Refused(Refusal {
                 number,
@@ -146,7 +145,9 @@ fn deepest_of(table: &[u32]) -> u32
 
 // 20, by rising depth: of the pictures that break it, the first one of the least depth. No table of a file is shorter or has more items, as above.
 fn judge_sizes(head: &[u8], table: &[u32], rows: &[u32]) -> Judged
-    ensures { λ r. ⌜ ((total : ℕ) (f : File) → Drawn (now (table .entry)) (now (rows .entry)) (now (head .entry)) total f → r ≡ toldJudged (byDepth (sceneOf total (now (head .entry)) f) (f .items) 17 0)) ⌝ }
+    ensures { λ r. ⌜ ((total : ℕ) (f : File) →
+        Drawn (now (table .entry)) (now (rows .entry)) (now (head .entry)) total f →
+        r ≡ toldJudged (byDepth (sceneOf total (now (head .entry)) f) (f .items) 17 0)) ⌝ }
 {
     if table.len() < Table::WORDS {
         return Judged::Good;
@@ -179,31 +180,33 @@ fn judge_sizes(head: &[u8], table: &[u32], rows: &[u32]) -> Judged
 }
 
 // 18 for every item. Where all rest on pictures without inputs no item is asked.
-fn judge_itself(head: &[u8], total: u64, table: &[u32], rows: &[u32], idat: usize) -> Judged
-    ensures { λ r. ⌜ ((f : File) → Drawn (now (table .entry)) (now (rows .entry)) (now (head .entry)) total f → r ≡ toldJudged (inOrder (ruleBy Rule.Itself total (now (head .entry)) f) 0 (f .items))) ⌝ }
+fn judge_itself(head: &[u8], ends: Ends, table: &[u32], rows: &[u32]) -> Judged
+    ensures { λ r. ⌜ ((f : File) → Drawn (now (table .entry)) (now (rows .entry)) (now (head .entry)) (ends .total) f →
+        r ≡ toldJudged (inOrder (ruleBy Rule.Itself (ends .total) (now (head .entry)) f) 0 (f .items))) ⌝ }
 {
     let n = views::item_count(table);
     if n <= 256 {
-        if depths::all_grounded(table, rows, n) {
+        if marks::all_grounded(table, rows, n) {
             return Judged::Good;
         }
     }
-    first_fault(head, total, table, rows, idat, Rule::Itself)
+    first_fault(head, ends, table, rows, Rule::Itself)
 }
 
 // 18 to 20, on the table with sizes and depths. Where nothing lies over 16 deep, 18 and 19 refuse nothing.
-fn judge_pictures(head: &[u8], total: u64, table: &[u32], rows: &[u32], idat: usize) -> Judged
-    ensures { λ r. ⌜ ((f : File) → Drawn (now (table .entry)) (now (rows .entry)) (now (head .entry)) total f → r ≡ toldJudged (picturesJudged total (now (head .entry)) f)) ⌝ }
+fn judge_pictures(head: &[u8], ends: Ends, table: &[u32], rows: &[u32]) -> Judged
+    ensures { λ r. ⌜ ((f : File) → Drawn (now (table .entry)) (now (rows .entry)) (now (head .entry)) (ends .total) f →
+        r ≡ toldJudged (picturesJudged (ends .total) (now (head .entry)) f)) ⌝ }
 {
     let deepest = deepest_of(table);
     if deepest <= 16 {
         return judge_sizes(head, table, rows);
     }
-    let i = judge_itself(head, total, table, rows, idat);
+    let i = judge_itself(head, ends, table, rows);
     match i {
         Judged::Refused(f) => Judged::Refused(f),
         Judged::Good => {
-            let d = first_fault(head, total, table, rows, idat, Rule::Deep);
+            let d = first_fault(head, ends, table, rows, Rule::Deep);
             match d {
                 Judged::Refused(f) => Judged::Refused(f),
                 Judged::Good => judge_sizes(head, table, rows),
@@ -212,13 +215,18 @@ fn judge_pictures(head: &[u8], total: u64, table: &[u32], rows: &[u32], idat: us
     }
 }
 
-// 15 to 20, for a file that keeps 12 to 14. 15 and 16 are judged where sizes and depths are filled in, and depths are right only where 17 is kept: so 17 is asked first, on the table as it was read, and what it says waits. Two calls of `fill_sizes`, so that its loop stays a function of its own (items::read_items).
-fn judge_placed(head: &[u8], total: u64, table: &mut [u32], rows: &[u32], idat: usize) -> Judged
-    requires { ⌜ ((f : File) × (x : List ℕ) × Read (now table) (now head) total idat f x) ⌝ }
-    ensures { λ r. ⌜ ((f : File) (x : List ℕ) → Read (now (table .entry)) (now (head .entry)) total idat f x → Resolved (now (table .entry)) (now (rows .entry)) f → AllPlaced total (now (head .entry)) f → RestBy (now (head .entry)) total f x r (now (table .exit))) ⌝ }
+// 15 to 20, for a file that keeps 12 to 14. 15 and 16 are judged where sizes and depths are filled in, and depths are
+// right only where 17 is kept: so 17 is asked first, on the table as it was read, and what it says waits. Two calls of
+// `fill_sizes`, so that its loop stays a function of its own (items::read_items).
+fn judge_placed(head: &[u8], ends: Ends, table: &mut [u32], rows: &[u32]) -> Judged
+    requires { ⌜ ((f : File) × (x : List ℕ) × Read (now table) (now head) (ends .total) (ends .idat) f x) ⌝ }
+    ensures { λ r. ⌜ ((f : File) (x : List ℕ) →
+        Read (now (table .entry)) (now (head .entry)) (ends .total) (ends .idat) f x →
+        Resolved (now (table .entry)) (now (rows .entry)) f → AllPlaced (ends .total) (now (head .entry)) f →
+        RestBy (now (head .entry)) (ends .total) f x r (now (table .exit))) ⌝ }
     ensures { λ _. ⌜ drop 11280 (now (table .exit)) ≡ drop 11280 (now (table .entry)) ⌝ }
 {
-    let d = first_fault(head, total, &*table, rows, idat, Rule::Derived);
+    let d = first_fault(head, ends, &*table, rows, Rule::Derived);
     let n = views::item_count(&*table);
     let depths = depths::depths_of(&*table, rows, n);
     match d {
@@ -233,16 +241,19 @@ fn judge_placed(head: &[u8], total: u64, table: &mut [u32], rows: &[u32], idat: 
             let s = sizing::fill_sizes(head, table, &depths);
             match s {
                 Filled::Refused(f) => Judged::Refused(f),
-                Filled::All => judge_pictures(head, total, &*table, rows, idat),
+                Filled::All => judge_pictures(head, ends, &*table, rows),
             }
         }
     }
 }
 
 // The table of a file that was read becomes that of the accepted file, or the first fault of 12 to 20 is given.
-pub fn judge(head: &[u8], total: u64, table: &mut [u32], rows: &[u32], idat: usize) -> Judged
-    requires { ⌜ ((f : File) × (x : List ℕ) × Read (now table) (now head) total idat f x) × Rowed (now table) (now rows) ⌝ }
-    ensures { λ r. ⌜ ((f : File) (x : List ℕ) → Read (now (table .entry)) (now (head .entry)) total idat f x → JudgedBy (now (head .entry)) total f x r (now (table .exit))) ⌝ }
+pub fn judge(head: &[u8], ends: Ends, table: &mut [u32], rows: &[u32]) -> Judged
+    requires { ⌜ ((f : File) × (x : List ℕ) × Read (now table) (now head) (ends .total) (ends .idat) f x) ×
+        Rowed (now table) (now rows) ⌝ }
+    ensures { λ r. ⌜ ((f : File) (x : List ℕ) →
+        Read (now (table .entry)) (now (head .entry)) (ends .total) (ends .idat) f x →
+        JudgedBy (now (head .entry)) (ends .total) f x r (now (table .exit))) ⌝ }
     ensures { λ _. ⌜ drop 11280 (now (table .exit)) ≡ drop 11280 (now (table .entry)) ⌝ }
 {
     if !placed::good_primary(&*table) {
@@ -251,9 +262,9 @@ pub fn judge(head: &[u8], total: u64, table: &mut [u32], rows: &[u32], idat: usi
             place: table::word(&*table, 5) as u64,
         });
     }
-    let p = first_fault(head, total, &*table, rows, idat, Rule::Placed);
+    let p = first_fault(head, ends, &*table, rows, Rule::Placed);
     match p {
         Judged::Refused(f) => Judged::Refused(f),
-        Judged::Good => judge_placed(head, total, table, rows, idat),
+        Judged::Good => judge_placed(head, ends, table, rows),
     }
 }

@@ -1,8 +1,8 @@
 // The lines of the listing program, for one file, and what other programs' lines share with them.
 ghost use mathlib.Core.Path.{_≡_};
 ghost use lib.ListN.{length};
+use asked::FileVerdict;
 use boxes::Refusal;
-use still::FileVerdict;
 use table::ItemId;
 use table::ItemRow;
 

@@ -15,7 +15,20 @@ use Rattle.fields.specs.Lists.{member}
 use Rattle.boxes.specs.Answer.{Answer, refuse}
 use Rattle.boxes.specs.declared.Refusal.{Refusal}
 use Rattle.forms.specs.Form.{got, demand, field, many}
-use Rattle.forms.proofs.StepLaws.{reads, read-reads, reads-got, reads-refused, reads-bind, reads-field, reads-short, reads-yes, reads-no, reads-give, reads-none, reads-more}
+use Rattle.forms.proofs.StepLaws.{
+  reads,
+  read-reads,
+  reads-got,
+  reads-refused,
+  reads-bind,
+  reads-field,
+  reads-short,
+  reads-yes,
+  reads-no,
+  reads-give,
+  reads-none,
+  reads-more,
+}
 use Rattle.contents.specs.Iloc.{Extent, Location, locatedIn, extentsIn, extent-form}
 use Rattle.records.specs.Rows.{idAt, idsIn}
 use Rattle.records.proofs.IdLaws.{row-listed}
@@ -26,10 +39,32 @@ use Rattle.locations.specs.declared.EntryPut.{EntryPut}
 use Rattle.locations.specs.declared.EntryPut.the-variants as put
 use Rattle.locations.specs.declared.RowRead.the-variants as row
 use Rattle.locations.specs.declared.RestRead.the-variants as rest
-use Rattle.locations.specs.Parts.{Size, Sized, new-form, rest-form, Lead, lead-form, entry-by, each, extentAt, extentsAt, extentsBy, Located, RowHere, RowAre, RestHere, RestAre, EntryHere, EntryAre, StoredAre, PutAre}
+use Rattle.locations.specs.Parts.{
+  Size,
+  Sized,
+  new-form,
+  rest-form,
+  Lead,
+  lead-form,
+  entry-by,
+  each,
+  extentAt,
+  extentsAt,
+  extentsBy,
+  Located,
+  RowHere,
+  RowAre,
+  RestHere,
+  RestAre,
+  EntryHere,
+  EntryAre,
+  StoredAre,
+  PutAre,
+}
 
 -- a field of a chain that does not fit as a whole: it is cut, or what follows it is
-reads-cut : {B : Type 0} (p : ℕ) (s : List ℕ) (at n : ℕ) (k : ℕ → List ℕ → Answer B) → at ≤ length s → (at + n ≤ length s → k (beAt s at n) (drop (at + n) s) ≡ refuse 8 p)
+reads-cut : {B : Type 0} (p : ℕ) (s : List ℕ) (at n : ℕ) (k : ℕ → List ℕ → Answer B) → at ≤ length s →
+    (at + n ≤ length s → k (beAt s at n) (drop (at + n) s) ≡ refuse 8 p)
     → reads (field n) p (drop at s) k ≡ refuse 8 p
 reads-cut p s at n k h f =
     elim (decLe (at + n) (length s)) [ yes l ↦ reads-field p s at n k l ∙ f l | no l ↦ reads-short p s at n k h (omega (arith, l)) ]
@@ -65,7 +100,14 @@ module _ (w : Widths) (used p : ℕ) (s : List ℕ) (at : ℕ) (h : at ≤ lengt
   module _ (l : w .method + w .base + 4 ≤ length s - at) (n : ℕ) (en : n ≡ beAt s (at + w .method + w .base + 2) 2) where
     fields-read : {B : Type 0} (k : Rest → List ℕ → Answer B)
         → reads (rest-form w used) p (drop at s) k
-        ≡ reads (demand 9 (leb (used + n) 512)) p (drop (at + w .method + w .base + 4) s) (λ u r. k (record { method = beAt s at (w .method) % 16; reference = beAt s (at + w .method) 2; base = beAt s (at + w .method + 2) (w .base); extents = n }) r)
+        ≡ reads (demand 9 (leb (used + n) 512)) p (drop (at + w .method + w .base + 4) s)
+        (λ u r. k (record {
+          method = beAt s at (w .method) % 16;
+          reference = beAt s (at + w .method) 2;
+          base =
+              beAt s (at + w .method + 2) (w .base);
+          extents = n;
+        }) r)
     unfolding rest-form
     fields-read k =
         let e : at + w .method + 2 + w .base ≡ at + w .method + w .base + 2 = omega arith in
@@ -159,7 +201,9 @@ module _ (ids : List ℕ) (w : Widths) (ls : List Location) (p : ℕ) (s : List 
     unfolding lead-form
     lead-gone n q f =
         rw (read-reads, reads-bind)
-        (reads-field p s at (w .id) _ (omega arith) ∙ rw (← e, reads-bind) (reads-refused (new-form ids ls id) p (drop (at + w .id) s) _ n q (f (drop (at + w .id) s))))
+        (reads-field p s at (w .id) _ (omega arith) ∙
+        rw (← e, reads-bind) (reads-refused (new-form ids ls id) p (drop (at + w .id) s) _ n q
+        (f (drop (at + w .id) s))))
 
     module _ (new : member id (locatedIn ls) ≡ false) (listed : member id ids ≡ true) where
       lead-rest : {B : Type 0} (k : Lead → List ℕ → Answer B)
@@ -209,13 +253,23 @@ entry-lead ids w ls p r k = simp (reads-bind, reads-give)
 -- StoredAre, PutAre: an entry that was read up to its extents, once they and its place were put
 module _ (t u : List ℕ) (n : ℕ) (w : Widths) (used p : ℕ) (s : List ℕ) (at idat : ℕ) where
   pub put-gone : (f : Refusal) → u ≡ t → EntryAre t n w used p s at (entry.Refused f) → PutAre t u n w used p s at idat (put.Refused f)
-  put-gone f e h =
-      (e, λ ls l. rw read-reads (entry-lead (idsIn t n) w ls p (drop at s) _ ∙ reads-refused (lead-form (idsIn t n) w ls) p (drop at s) _ (f .number) (f .place) (h ls l)))
+  put-gone f e h = (
+    e,
+    λ ls l. rw read-reads (entry-lead (idsIn t n) w ls p (drop at s) _ ∙
+        reads-refused (lead-form (idsIn t n) w ls) p (drop at s) _ (f .number) (f .place) (h ls l)),
+  )
 
   module _ (r : ℕ) (x : Rest) (from : ℕ) (h : EntryHere t n w used p s at r x from) where
     lead-extents : (ls : List Location) → Located t n used ls
         → entry-by (idsIn t n) w ls .read p (drop at s)
-        ≡ reads (many (extent-form (w .index) (w .offset) (w .length)) (x .extents) []) p (drop from s) (λ es q. got (record { id = idAt t r; method = x .method; reference = x .reference; base = x .base; extents = es }) q)
+        ≡ reads (many (extent-form (w .index) (w .offset) (w .length)) (x .extents) []) p (drop from s)
+        (λ es q. got (record {
+          id = idAt t r;
+          method = x .method;
+          reference = x .reference;
+          base = x .base;
+          extents = es;
+        }) q)
     lead-extents ls l = rw read-reads (entry-lead (idsIn t n) w ls p (drop at s) _ ∙ reads-got (lead-form (idsIn t n) w ls) p (drop at s) _ _ _ (h .read ls l))
 
     pub put-are : (o : EntryPut) → StoredAre w s from p t u r x used idat o → PutAre t u n w used p s at idat o
@@ -234,5 +288,6 @@ module _ (t u : List ℕ) (n : ℕ) (w : Widths) (used p : ℕ) (s : List ℕ) (
           count = extents-count (w .index) (w .offset) (w .length) s from (x .extents) ∙ sym e;
           stored = rw (z .row, e) (z .stored);
           new = λ ls l. h .new ls l;
-          read = λ ls l. lead-extents ls l ∙ extents-are (w .index) (w .offset) (w .length) p s _ (x .extents) from [] (rw (z .ends) at (z .room)) ∙ rw (z .ends);
+          read = λ ls l. lead-extents ls l ∙ extents-are (w .index) (w .offset) (w .length) p s _ (x .extents) from []
+              (rw (z .ends) at (z .room)) ∙ rw (z .ends);
         }

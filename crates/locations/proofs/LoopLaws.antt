@@ -38,7 +38,8 @@ told-same r x y e h = rw e h
 left-refused : (a : Answer (List Location)) (n idat : ℕ) (t u : List ℕ) (k p : ℕ) → Kept t u → a ≡ refuse k p → EntriesLeft a n idat t u
 left-refused a n idat t u k p h e = record { kept = h; told = λ pl f x ls q r z o g. let y : _≡_ {A = ℕ} 0 1 = cc in absurd (omega arith) }
 
-pub left-whole : (a : Answer (List Location)) (s : List ℕ) (place n idat : ℕ) (t u : List ℕ) → whole (iloc-form (idsIn t n)) place s ≡ a → EntriesLeft a n idat t u → LocationsLeft s place n idat t u
+pub left-whole : (a : Answer (List Location)) (s : List ℕ) (place n idat : ℕ) (t u : List ℕ) →
+    whole (iloc-form (idsIn t n)) place s ≡ a → EntriesLeft a n idat t u → LocationsLeft s place n idat t u
 left-whole a s place n idat t u e h =
     record {
       kept = h .kept;
@@ -56,11 +57,19 @@ unfolding rawOf
 none-located pl f x e = ap (λ (ls : List Location). rawOf [] pl (withLocations f ls) ++ x) e
 
 bounded-with : (f : File) (ls : List Location) → Bounded f → extentsIn ls ≤ 512 → Bounded (withLocations f ls)
-bounded-with f ls b h = record { few-items = b .few-items; few-extents = h; few-properties = b .few-properties; few-associations = b .few-associations; few-targets = b .few-targets }
+bounded-with f ls b h = record {
+  few-items = b .few-items;
+  few-extents = h;
+  few-properties = b .few-properties;
+  few-associations = b .few-associations;
+  few-targets = b .few-targets;
+}
 
 -- PutHere: an entry that was put into the table of a file
-file-put : (t u : List ℕ) (n : ℕ) (w : Widths) (used p : ℕ) (s : List ℕ) (at idat end k r : ℕ) (z : PutHere t u n w used p s at idat end k r) (ls : List Location) → Located t n used ls
-    → (pl : Places) (f : File) (x : List ℕ) → pl .idat ≡ idat → Ready f n → used ≤ 512 → t ≡ rawOf [] pl (withLocations f ls) ++ x → u ≡ rawOf [] pl (withLocations f (ls ++ (z .location ∷ []))) ++ x
+file-put : (t u : List ℕ) (n : ℕ) (w : Widths) (used p : ℕ) (s : List ℕ) (at idat end k r : ℕ)
+    (z : PutHere t u n w used p s at idat end k r) (ls : List Location) → Located t n used ls
+    → (pl : Places) (f : File) (x : List ℕ) → pl .idat ≡ idat → Ready f n → used ≤ 512 →
+    t ≡ rawOf [] pl (withLocations f ls) ++ x → u ≡ rawOf [] pl (withLocations f (ls ++ (z .location ∷ []))) ++ x
 file-put t u n w used p s at idat end k r z ls h pl f x q rd m e =
     let l = z .location in
     let g = withLocations f ls in
@@ -73,7 +82,9 @@ file-put t u n w used p s at idat end k r z ls h pl f x q rd m e =
     z .stored
     ∙ rw (e, ← z .count, h .count, ← rows-raw pl l idat q (l .extents))
     (sym
-    (raw-location [] pl x (omega arith) g (bounded-with f ls (rd .bounded) (omega arith)) r (rd .distinct) in-file l (sym (raw-id [] pl x (omega arith) g r in-file) ∙ ap (λ (y : List ℕ). idAt y r) (sym e) ∙ z .id) (z .new ls h) (omega arith)))
+    (raw-location [] pl x (omega arith) g (bounded-with f ls (rd .bounded) (omega arith)) r (rd .distinct) in-file l
+    (sym (raw-id [] pl x (omega arith) g r in-file) ∙ ap (λ (y : List ℕ). idAt y r) (sym e) ∙ z .id) (z .new ls h)
+    (omega arith)))
 
 module _ (s : List ℕ) (from count : ℕ) (w : Widths) (p n idat : ℕ) (t₀ : List ℕ) where
   abbrev pub answer : Answer (List Location)
@@ -88,7 +99,8 @@ module _ (s : List ℕ) (from count : ℕ) (w : Widths) (p n idat : ℕ) (t₀ :
     pub ids : idsIn t n ≡ idsIn t₀ n
     pub kept : Kept t₀ t
     pub same : answer ≡ reads (many (entry-by (idsIn t₀ n) w) (count - i) ls) p (drop at s) (over p)
-    pub table : (pl : Places) (f : File) (x : List ℕ) → pl .idat ≡ idat → Ready f n → f .locations ≡ [] → t₀ ≡ rawOf [] pl f ++ x → t ≡ rawOf [] pl (withLocations f ls) ++ x
+    pub table : (pl : Places) (f : File) (x : List ℕ) → pl .idat ≡ idat → Ready f n → f .locations ≡ [] →
+        t₀ ≡ rawOf [] pl f ++ x → t ≡ rawOf [] pl (withLocations f ls) ++ x
 
   pub so-start : from ≤ length s → Unplaced t₀ n → So t₀ from 0 0
   so-start h z =
@@ -106,14 +118,16 @@ module _ (s : List ℕ) (from count : ℕ) (w : Widths) (p n idat : ℕ) (t₀ :
 
   -- one more entry
   module _ (t u : List ℕ) (at used i : ℕ) (so : So t at used i) (more : i < count) where
-    entry-next : answer ≡ reads (entry-by (idsIn t₀ n) w (so .ls)) p (drop at s) (λ x r. reads (many (entry-by (idsIn t₀ n) w) (count - (i + 1)) (so .ls ++ (x ∷ []))) p r (over p))
+    entry-next : answer ≡ reads (entry-by (idsIn t₀ n) w (so .ls)) p (drop at s)
+        (λ x r. reads (many (entry-by (idsIn t₀ n) w) (count - (i + 1)) (so .ls ++ (x ∷ []))) p r (over p))
     entry-next =
         let e : count - i ≡ suc (count - (i + 1)) = omega arith in
         so .same ∙ rw e (reads-more (entry-by (idsIn t₀ n) w) p (drop at s) (over p) (count - (i + 1)) (so .ls))
 
     pub so-refused : (f : Refusal) → PutAre t u n w used p s at idat (put.Refused f) → (answer ≡ refuse (f .number) (f .place)) × EntriesLeft answer n idat t₀ u
     so-refused f z =
-        let e = entry-next ∙ reads-refused (entry-by (idsIn t₀ n) w (so .ls)) p (drop at s) _ (f .number) (f .place) (rw (so .ids) at (z .1 (so .ls) (so .located))) in
+        let e = entry-next ∙ reads-refused (entry-by (idsIn t₀ n) w (so .ls)) p (drop at s) _ (f .number) (f .place)
+        (rw (so .ids) at (z .1 (so .ls) (so .located))) in
         (e, left-refused answer n idat t₀ u (f .number) (f .place) (rw (z .0) (so .kept)) e)
 
     module _ (few : n ≤ 256) (long : 11280 ≤ length t₀) (ds : Distinct (idsIn t₀ n)) (end k r : ℕ) (z : PutHere t u n w used p s at idat end k r) where

@@ -44,7 +44,8 @@ capped-twice a b =
     elim (decLe a largest) [
       | yes l ↦ ap (λ (x : ℕ). capped (x + b)) (capped-small a l)
       | no l ↦
-          ap (λ (x : ℕ). capped (x + b)) (capped-large a (omega (arith, l))) ∙ capped-large (largest + b) (omega arith) ∙ sym (capped-large (a + b) (omega (arith, l)))
+          ap (λ (x : ℕ). capped (x + b)) (capped-large a (omega (arith, l))) ∙
+          capped-large (largest + b) (omega arith) ∙ sym (capped-large (a + b) (omega (arith, l)))
     ]
 
 -- startOf
@@ -71,7 +72,8 @@ rows-capped start es =
     (λ j h. ap (λ (x : ℕ). highLow x ++ highLow (getD es j noExtent .size)) (capped-twice start (getD es j noExtent .offset)))
 
 -- the words of an extent in the table of a file
-pub rows-raw : (pl : Places) (l : Location) (idat : ℕ) → pl .idat ≡ idat → (es : List Extent) → joinAll (λ (e : Extent). extentRow pl l e) es ≡ joinAll (rowFrom (startOf idat (l .method) (l .base))) es
+pub rows-raw : (pl : Places) (l : Location) (idat : ℕ) → pl .idat ≡ idat → (es : List Extent) →
+    joinAll (λ (e : Extent). extentRow pl l e) es ≡ joinAll (rowFrom (startOf idat (l .method) (l .base))) es
 unfolding rowFrom extentRow fileOffset
 rows-raw pl l idat q es =
     join-same (λ (e : Extent). extentRow pl l e) (rowFrom (startOf idat (l .method) (l .base))) noExtent es
@@ -96,7 +98,8 @@ pub extents-stored : (i o l : ℕ) (s : List ℕ) (at start used j a x z c : ℕ
 unfolding rowFrom
 extents-stored i o l s at start used j a x z c t u v eu ea ex ez ec ev =
     let ws = joinAll (rowFrom start) (extentsAt i o l s at j) in
-    let n : length ws ≡ 4 * j = join-length (rowFrom start) 4 (row-length start) (extentsAt i o l s at j) ∙ ap (λ (k : ℕ). 4 * k) (extents-count i o l s at j) in
+    let n : length ws ≡ 4 * j = join-length (rowFrom start) 4 (row-length start) (extentsAt i o l s at j) ∙
+    ap (λ (k : ℕ). 4 * k) (extents-count i o l s at j) in
     let q : 9232 + 4 * (used + j) ≡ 9232 + 4 * used + length ws = omega arith in
     let next : joinAll (rowFrom start) (extentsAt i o l s at (j + 1)) ≡ ws ++ rowFrom start (extentAt i o l s (at + j * (i + o + l))) =
     rw (add-one j) (ap (joinAll (rowFrom start)) (extents-next i o l s at j) ∙ join-snoc (rowFrom start) (extentsAt i o l s at j) _)
@@ -124,7 +127,8 @@ pub five-stored : (t : List ℕ) (a b v w k m d : ℕ) → a ≡ b → v ≡ w
 five-stored t a b v w k m d e f = rw (e, f) (simp towards-suc)
 
 -- StoredHere: extents and place put one after the other
-pub stored-here : (w : Widths) (s : List ℕ) (at : ℕ) (t v u : List ℕ) (r : ℕ) (x : Rest) (used idat start : ℕ) → at ≤ length s → x .extents * each w ≤ length s - at
+pub stored-here : (w : Widths) (s : List ℕ) (at : ℕ) (t v u : List ℕ) (r : ℕ) (x : Rest) (used idat start : ℕ) →
+    at ≤ length s → x .extents * each w ≤ length s - at
     → start ≡ capped (startOf idat (x .method) (x .base))
     → v ≡ sets t (9232 + 4 * used) (joinAll (rowFrom start) (extentsBy w s at (x .extents)))
     → u ≡ sets v (16 + 16 * r + 7) (placeRow used x)

@@ -13,7 +13,20 @@ use Rattle.fields.specs.Field.{beAt}
 use Rattle.fields.proofs.TestLaws.{and-both, or-either}
 use Rattle.boxes.specs.Answer.{Answer, refuse}
 use Rattle.forms.specs.Form.{Got, demand, field, many, whole}
-use Rattle.forms.proofs.StepLaws.{reads, over, whole-reads, read-reads, reads-got, reads-refused, reads-bind, reads-field, reads-short, reads-yes, reads-no, reads-give}
+use Rattle.forms.proofs.StepLaws.{
+  reads,
+  over,
+  whole-reads,
+  read-reads,
+  reads-got,
+  reads-refused,
+  reads-bind,
+  reads-field,
+  reads-short,
+  reads-yes,
+  reads-no,
+  reads-give,
+}
 use Rattle.contents.specs.Full.{full, upto}
 use Rattle.contents.specs.Iloc.{fieldSize, iloc-form, entry-form}
 use Rattle.contents.proofs.FullLaws.{FullHere}
@@ -52,12 +65,21 @@ and-either true b e = inr e
 and-either false b e = inl refl
 
 -- widthsBy
-widths-sized : (v a b : ℕ) → (fieldSize (a / 16) && fieldSize (a % 16)) ≡ true → (fieldSize (b / 16) && fieldSize (pick (eqb v 0) 0 (b % 16))) ≡ true → Sized (widthsBy v a b)
+widths-sized : (v a b : ℕ) → (fieldSize (a / 16) && fieldSize (a % 16)) ≡ true →
+    (fieldSize (b / 16) && fieldSize (pick (eqb v 0) 0 (b % 16))) ≡ true → Sized (widthsBy v a b)
 unfolding pick
 widths-sized v a b e f =
     let x = and-both (fieldSize (a / 16)) _ e in
     let y = and-both (fieldSize (b / 16)) _ f in
-    record { id = four (eqb v 2); method = two (eqb v 0); offset = size-is _ (x .0); length = size-is _ (x .1); base = size-is _ (y .0); index = size-is _ (y .1) }
+    record {
+      id = four (eqb v 2);
+      method = two (eqb v 0);
+      offset = size-is _ (x .0);
+      length = size-is _ (x .1);
+      base =
+          size-is _ (y .0);
+      index = size-is _ (y .1);
+    }
   where
     four : (t : Bool) → (_≡_ {A = ℕ} (pick t 4 2) 2) ⊎ (_≡_ {A = ℕ} (pick t 4 2) 4)
     four true = inr refl
@@ -68,7 +90,8 @@ widths-sized v a b e f =
     two false = inr refl
 
 -- two demands by one number
-both-demands : {B : Type 0} (c d : Bool) (n p : ℕ) (r : List ℕ) (k : Unit {0} → List ℕ → Answer B) → (c && d) ≡ false → reads (demand n c) p r (λ u t. reads (demand n d) p t k) ≡ refuse n p
+both-demands : {B : Type 0} (c d : Bool) (n p : ℕ) (r : List ℕ) (k : Unit {0} → List ℕ → Answer B) → (c && d) ≡ false →
+    reads (demand n c) p r (λ u t. reads (demand n d) p t k) ≡ refuse n p
 both-demands c d n p r k e = go (and-either c d e) c refl
   where
     go : (c ≡ false) ⊎ (d ≡ false) → (b : Bool) → c ≡ b → reads (demand n c) p r (λ u t. reads (demand n d) p t k) ≡ refuse n p
@@ -116,7 +139,9 @@ module _ (v p : ℕ) (s : List ℕ) (h : 4 ≤ length s) where
     module _ (e : (fieldSize (a / 16) && fieldSize (a % 16)) ≡ true) where
       second : {B : Type 0} (k : Front → List ℕ → Answer B)
           → reads (sizes-form v) p (drop 4 s) k
-          ≡ reads (field 1) p (drop 5 s) (λ b r. reads (demand 10 (fieldSize (b / 16))) p r (λ u t. reads (demand 10 (eqb v 0 || fieldSize (b % 16))) p t (λ u q. reads (count-form (widthsBy v a b)) p q k)))
+          ≡ reads (field 1) p (drop 5 s) (λ b r. reads (demand 10 (fieldSize (b / 16))) p r
+          (λ u t. reads (demand 10 (eqb v 0 || fieldSize (b % 16))) p t
+          (λ u q. reads (count-form (widthsBy v a b)) p q k)))
       unfolding sizes-form
       second k =
           let x = and-both (fieldSize (a / 16)) _ e in
@@ -142,7 +167,8 @@ module _ (v p : ℕ) (s : List ℕ) (h : 4 ≤ length s) where
               rw (read-reads (sizes-form v), ew)
               (second _
               ∙ reads-field p s 5 1 _ (omega arith)
-              ∙ rw (← eb) (reads-yes p (drop 6 s) 10 _ _ (y .0) ∙ reads-yes p (drop 6 s) 10 _ _ (y .1) ∙ sym (read-reads (count-form (widthsBy v a b)) p (drop 6 s))))
+              ∙ rw (← eb) (reads-yes p (drop 6 s) 10 _ _ (y .0) ∙ reads-yes p (drop 6 s) 10 _ _ (y .1) ∙
+              sym (read-reads (count-form (widthsBy v a b)) p (drop 6 s))))
 
           pub sizes-count : (o : Sizes) → SizesAre (count-form w .read p (drop 6 s)) s o → SizesAre (sizes-form v .read p (drop 4 s)) s o
           sizes-count o h = subst (λ (x : Answer (Got Front)). SizesAre x s o) (sym count-read) h
@@ -164,7 +190,8 @@ module _ (ids : List ℕ) (p : ℕ) (s : List ℕ) where
     pub iloc-sizes-gone : (n q : ℕ) → sizes-form v .read p (drop 4 s) ≡ refuse n q → whole (iloc-form ids) p s ≡ refuse n q
     iloc-sizes-gone n q e = iloc-parts ∙ reads-got (full (upto 2)) p s _ _ _ (h .read) ∙ reads-refused (sizes-form v) p (drop 4 s) _ n q e
 
-    pub iloc-entries : (w : Widths) (n : ℕ) → SizesHere (sizes-form v .read p (drop 4 s)) s w n → (at : ℕ) → 6 + w .id ≡ at → whole (iloc-form ids) p s ≡ whole (many (entry-by ids w) n []) p (drop at s)
+    pub iloc-entries : (w : Widths) (n : ℕ) → SizesHere (sizes-form v .read p (drop 4 s)) s w n → (at : ℕ) →
+        6 + w .id ≡ at → whole (iloc-form ids) p s ≡ whole (many (entry-by ids w) n []) p (drop at s)
     iloc-entries w n z at e =
         iloc-parts
         ∙ reads-got (full (upto 2)) p s _ _ _ (h .read)

@@ -97,7 +97,8 @@ module _ (t ws : List ℕ) (m r a b c d : ℕ) where
   put = sets (sets t (9232 + m) ws) (16 + 16 * r + 7) (a ∷ b ∷ c ∷ d ∷ 1 ∷ [])
 
   pub put-kept : m + length ws ≤ 2048 → r < 256 → Kept t put
-  put-kept h l = kept-on t _ put (kept-sets t (9232 + m) ws (omega arith)) (kept-sets (sets t (9232 + m) ws) (16 + 16 * r + 7) (a ∷ b ∷ c ∷ d ∷ 1 ∷ []) (omega arith))
+  put-kept h l = kept-on t _ put (kept-sets t (9232 + m) ws (omega arith))
+      (kept-sets (sets t (9232 + m) ws) (16 + 16 * r + 7) (a ∷ b ∷ c ∷ d ∷ 1 ∷ []) (omega arith))
 
   -- words that are not written
   apart : (i : ℕ) → i < 9232 → (i < 16 + 16 * r + 7) ⊎ (16 + 16 * r + 12 ≤ i) → getD put i 0 ≡ getD t i 0
@@ -105,7 +106,11 @@ module _ (t ws : List ℕ) (m r a b c d : ℕ) where
   apart i h (inr l) = sets-above (a ∷ b ∷ c ∷ d ∷ 1 ∷ []) (sets t (9232 + m) ws) (16 + 16 * r + 7) i (omega arith) ∙ sets-below ws t (9232 + m) i (omega arith)
 
   put-id : (k : ℕ) → k < 256 → idAt put k ≡ idAt t k
-  put-id k h = elim (decLe k r) [ yes l ↦ apart (16 + 16 * k) (omega arith) (inl (omega arith)) | no l ↦ apart (16 + 16 * k) (omega arith) (inr (omega (arith, l))) ]
+  put-id k h = elim (decLe k r) [
+    | yes l ↦ apart (16 + 16 * k) (omega arith) (inl (omega arith))
+    | no l ↦ apart
+        (16 + 16 * k) (omega arith) (inr (omega (arith, l)))
+  ]
 
   put-flag : 11280 ≤ length t → r < 256 → getD put (16 + 16 * r + 11) 0 ≡ 1
   put-flag h l =
@@ -114,13 +119,18 @@ module _ (t ws : List ℕ) (m r a b c d : ℕ) where
       ∙ sets-in (a ∷ b ∷ c ∷ d ∷ 1 ∷ []) (sets t (9232 + m) ws) (16 + 16 * r + 7) 4 (omega arith) (rw length-sets (omega arith))
 
   put-other : (k : ℕ) → k < 256 → (k ≡ r → ⊥) → getD put (16 + 16 * k + 11) 0 ≡ getD t (16 + 16 * k + 11) 0
-  put-other k h q = elim (decLe k r) [ yes l ↦ apart (16 + 16 * k + 11) (omega arith) (inl (omega (arith, q))) | no l ↦ apart (16 + 16 * k + 11) (omega arith) (inr (omega (arith, l))) ]
+  put-other k h q = elim (decLe k r) [
+    | yes l ↦ apart (16 + 16 * k + 11) (omega arith) (inl (omega (arith, q)))
+    | no l ↦
+        apart (16 + 16 * k + 11) (omega arith) (inr (omega (arith, l)))
+  ]
 
   pub put-ids : (n : ℕ) → n ≤ 256 → idsIn put n ≡ idsIn t n
   put-ids n h = ids-same t put n (λ k l. put-id k (omega arith))
 
   -- Located: one more entry
-  module _ (n used : ℕ) (ls : List Location) (l : Location) (h : Located t n used ls) (ds : Distinct (idsIn t n)) (few : n ≤ 256) (long : 11280 ≤ length t) (below : r < n) (same : idAt t r ≡ l .id) where
+  module _ (n used : ℕ) (ls : List Location) (l : Location) (h : Located t n used ls) (ds : Distinct (idsIn t n))
+      (few : n ≤ 256) (long : 11280 ≤ length t) (below : r < n) (same : idAt t r ≡ l .id) where
     flag-more : (k : ℕ) → k < n → getD put (16 + 16 * k + 11) 0 ≡ pick (member (idAt put k) (locatedIn (ls ++ (l ∷ [])))) 1 0
     flag-more k z =
         rw (located-in ls l, put-id k (omega arith))

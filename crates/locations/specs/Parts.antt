@@ -40,7 +40,14 @@ use Rattle.locations.specs.declared.EntryPut.the-variants as put
 
 -- what stands before the entries
 abbrev pub widthsBy : ℕ → ℕ → ℕ → Widths
-widthsBy v a b = record { id = pick (eqb v 2) 4 2; method = pick (eqb v 0) 0 2; offset = a / 16; length = a % 16; base = b / 16; index = pick (eqb v 0) 0 (b % 16) }
+widthsBy v a b = record {
+  id = pick (eqb v 2) 4 2;
+  method = pick (eqb v 0) 0 2;
+  offset = a / 16;
+  length = a % 16;
+  base = b / 16;
+  index = pick (eqb v 0) 0 (b % 16);
+}
 
 abbrev pub Size : ℕ → Type 0
 Size n = (n ≡ 0) ⊎ ((n ≡ 4) ⊎ (n ≡ 8))
@@ -148,7 +155,8 @@ placeRow used r = pick (eqb (r .extents) 0) 0 used ∷ r .extents ∷ r .method 
 -- the table t with the k extents from `at` on and the place of the item in a row
 abbrev pub storedAt : Widths → List ℕ → ℕ → List ℕ → ℕ → Rest → ℕ → ℕ → List ℕ
 storedAt w s at t row r used idat =
-    sets (sets t (9232 + 4 * used) (joinAll (rowFrom (startOf idat (r .method) (r .base))) (extentsBy w s at (r .extents)))) (16 + 16 * row + 7) (placeRow used r)
+    sets (sets t (9232 + 4 * used) (joinAll (rowFrom (startOf idat (r .method) (r .base)))
+    (extentsBy w s at (r .extents)))) (16 + 16 * row + 7) (placeRow used r)
 
 -- the table while entries are read
 pub record Located (t : List ℕ) (n used : ℕ) (ls : List Location) : Type 0 where
@@ -183,7 +191,8 @@ pub record EntryHere (t : List ℕ) (n : ℕ) (w : Widths) (used place : ℕ) (s
   pub few : used + x .extents ≤ 512
   pub below : r < n
   pub new : (ls : List Location) → Located t n used ls → member (idAt t r) (locatedIn ls) ≡ false
-  pub read : (ls : List Location) → Located t n used ls → lead-form (idsIn t n) w ls .read place (drop at s) ≡ got (record { id = idAt t r; rest = x }) (drop end s)
+  pub read : (ls : List Location) → Located t n used ls →
+      lead-form (idsIn t n) w ls .read place (drop at s) ≡ got (record { id = idAt t r; rest = x }) (drop end s)
 
 abbrev pub EntryAre : List ℕ → ℕ → Widths → ℕ → ℕ → List ℕ → ℕ → EntryRead → Type 0
 EntryAre t n w used place s at (entry.Is r x end) = EntryHere t n w used place s at (r .0) x end
@@ -226,4 +235,5 @@ PutAre t u n w used place s at idat (put.Refused f) =
 -- all entries, a being what their form answers
 pub record EntriesLeft (a : Answer (List Location)) (n idat : ℕ) (t u : List ℕ) : Type 0 where
   pub kept : Kept t u
-  pub told : (pl : Places) (f : File) (x : List ℕ) (ls : List Location) → pl .idat ≡ idat → Ready f n → f .locations ≡ [] → a ≡ ok ls → t ≡ rawOf [] pl f ++ x → u ≡ rawOf [] pl (withLocations f ls) ++ x
+  pub told : (pl : Places) (f : File) (x : List ℕ) (ls : List Location) → pl .idat ≡ idat → Ready f n →
+      f .locations ≡ [] → a ≡ ok ls → t ≡ rawOf [] pl f ++ x → u ≡ rawOf [] pl (withLocations f ls) ++ x

@@ -29,4 +29,6 @@ pub record Unplaced (t : List ℕ) (n : ℕ) : Type 0 where
 
 pub record LocationsLeft (s : List ℕ) (place n idat : ℕ) (t u : List ℕ) : Type 0 where
   pub kept : Kept t u
-  pub told : (pl : Places) (f : File) (x : List ℕ) (ls : List Location) → pl .idat ≡ idat → Ready f n → f .locations ≡ [] → whole (iloc-form (idsOf (f .items))) place s ≡ ok ls → t ≡ rawOf [] pl f ++ x → u ≡ rawOf [] pl (withLocations f ls) ++ x
+  pub told : (pl : Places) (f : File) (x : List ℕ) (ls : List Location) → pl .idat ≡ idat → Ready f n →
+      f .locations ≡ [] → whole (iloc-form (idsOf (f .items))) place s ≡ ok ls → t ≡ rawOf [] pl f ++ x →
+      u ≡ rawOf [] pl (withLocations f ls) ++ x

@@ -15,7 +15,25 @@ ghost use Rattle.rules.specs.Words.{joinAll, highLow};
 ghost use Rattle.records.specs.Raw.{capped};
 ghost use Rattle.records.specs.Rows.{idsIn};
 ghost use Rattle.locations.specs.Told.{toldLocations, Unplaced, LocationsLeft};
-ghost use Rattle.locations.specs.Parts.{widthsBy, Sized, sizes-form, count-form, SizesAre, entry-by, each, extentsBy, rowFrom, startOf, placeRow, RowAre, RestAre, EntryAre, StoredAre, PutAre, EntriesLeft};
+ghost use Rattle.locations.specs.Parts.{
+  widthsBy,
+  Sized,
+  sizes-form,
+  count-form,
+  SizesAre,
+  entry-by,
+  each,
+  extentsBy,
+  rowFrom,
+  startOf,
+  placeRow,
+  RowAre,
+  RestAre,
+  EntryAre,
+  StoredAre,
+  PutAre,
+  EntriesLeft,
+};
 use boxes::Refusal;
 use contents::FullRead;
 use records::FoundRow;
@@ -415,7 +433,8 @@ fn put_entries(
 ) -> LocationsRead
     requires { ⌜ (from ≤ length (now s)) × Sized w × (n ≤ 256) × (11280 ≤ length (now table)) × Unplaced (now table) n ⌝ }
     ensures { λ r. ⌜ r ≡ toldLocations (whole (many (entry-by (idsIn (now (table .entry)) n) w) count []) place (drop from (now (s .entry)))) ⌝ }
-    ensures { λ _. ⌜ EntriesLeft (whole (many (entry-by (idsIn (now (table .entry)) n) w) count []) place (drop from (now (s .entry)))) n idat (now (table .entry)) (now (table .exit)) ⌝ }
+    ensures { λ _. ⌜ EntriesLeft (whole (many (entry-by (idsIn (now (table .entry)) n) w) count []) place
+        (drop from (now (s .entry)))) n idat (now (table .entry)) (now (table .exit)) ⌝ }
 {
     let mut at = from;
     let mut used: usize = 0;

@@ -51,18 +51,21 @@ module _ (t marks : List ℕ) (wanted : ℕ → Bool) where
   joined xs rest x true = sym (append-assoc xs (x ∷ []) rest)
   joined xs rest x false = ap (λ (l : List ℕ). l ++ rest) (sym (append-nil xs))
 
-  needed-first : (k : ℕ) (p : Picture) (ps : List Picture) → Shown k p → markedOf t marks k ++ neededOf wanted k (p ∷ ps) ≡ markedOf t marks (suc k) ++ neededOf wanted (suc k) ps
+  needed-first : (k : ℕ) (p : Picture) (ps : List Picture) → Shown k p → markedOf t marks k ++
+      neededOf wanted k (p ∷ ps) ≡ markedOf t marks (suc k) ++ neededOf wanted (suc k) ps
   unfolding neededOf markedOf
   needed-first k p ps h = rw (h .test, h .id) (joined (markedOf t marks k) (neededOf wanted (suc k) ps) (recordWord t k 0) (chosen t marks k))
 
-  needed-from : (ps : List Picture) (k : ℕ) → ((j : ℕ) → j < length ps → Shown (k + j) (getD ps j nothing)) → markedOf t marks k ++ neededOf wanted k ps ≡ markedOf t marks (k + length ps)
+  needed-from : (ps : List Picture) (k : ℕ) → ((j : ℕ) → j < length ps → Shown (k + j) (getD ps j nothing)) →
+      markedOf t marks k ++ neededOf wanted k ps ≡ markedOf t marks (k + length ps)
   unfolding neededOf
   needed-from [] k h = let e : k ≡ k + 0 = omega arith in append-nil (markedOf t marks k) ∙ ap (markedOf t marks) e
   needed-from (p ∷ ps) k h =
       let z : k + 0 ≡ k = omega arith in
       let e : suc k + length ps ≡ k + suc (length ps) = omega arith in
       needed-first k p ps (subst (λ (n : ℕ). Shown n p) z (h 0 (omega arith)))
-      ∙ needed-from ps (suc k) (λ j l. let f : k + suc j ≡ suc k + j = omega arith in subst (λ (n : ℕ). Shown n (getD ps j nothing)) f (h (suc j) (omega arith)))
+      ∙ needed-from ps (suc k) (λ j l. let f : k + suc j ≡ suc k + j = omega arith in
+      subst (λ (n : ℕ). Shown n (getD ps j nothing)) f (h (suc j) (omega arith)))
       ∙ ap (markedOf t marks) e
 
   needed-all : (ps : List Picture) → ((j : ℕ) → j < length ps → Shown j (getD ps j nothing)) → neededOf wanted 0 ps ≡ markedOf t marks (length ps)
@@ -103,8 +106,12 @@ module _ (total : ℕ) (head : List ℕ) (f : File) (item : Item) where
       (λ d e. by-type (then-ok _ _ r e .2) ∙ sym (derived-other (item .type) d))
       (λ d e. ap isCoded (sym (ok-inj _ r (then-ok _ _ r e .2))) ∙ both (λ (x : Recipe). isCoded x ≡ coded (item .type)) _ _ _ (λ q. sym q) (λ q. sym q))
     where
-      by-type : pick (eqb (item .type) iden) (copyOf total head f item) (pick (eqb (item .type) grid) (tilesOf total head f item) (layersOf total head f item)) ≡ ok r → isCoded r ≡ false
-      by-type = both (λ (m : Answer Recipe). m ≡ ok r → isCoded r ≡ false) _ _ _ (λ q. copy-coded r) (λ q. both (λ (m : Answer Recipe). m ≡ ok r → isCoded r ≡ false) _ _ _ (λ q. tiles-coded r) (λ q. layers-coded r))
+      by-type : pick (eqb (item .type) iden) (copyOf total head f item)
+          (pick (eqb (item .type) grid) (tilesOf total head f item) (layersOf total head f item)) ≡ ok r →
+          isCoded r ≡ false
+      by-type = both (λ (m : Answer Recipe). m ≡ ok r → isCoded r ≡ false) _ _ _ (λ q. copy-coded r)
+          (λ q. both (λ (m : Answer Recipe). m ≡ ok r → isCoded r ≡ false) _ _ _ (λ q. tiles-coded r)
+          (λ q. layers-coded r))
 
 module _ (total : ℕ) (head : List ℕ) (f : File) where
   abbrev s : Scene

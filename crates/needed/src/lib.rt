@@ -41,7 +41,9 @@ pub fn count_sources(table: &[u32], marks: &[u32], n: usize) -> usize
 // Their IDs into a list that has room for them.
 pub fn put_sources(table: &[u32], marks: &[u32], n: usize, list: &mut [u32])
     requires { ⌜ n ≤ 256 ⌝ }
-    ensures { λ _. ⌜ (length (markedOf (now (table .entry)) (now (marks .entry)) n) ≤ length (now (list .entry)) → now (list .exit) ≡ markedOf (now (table .entry)) (now (marks .entry)) n ++ drop (length (markedOf (now (table .entry)) (now (marks .entry)) n)) (now (list .entry))) ⌝ }
+    ensures { λ _. ⌜ (length (markedOf (now (table .entry)) (now (marks .entry)) n) ≤ length (now (list .entry)) →
+        now (list .exit) ≡ markedOf (now (table .entry)) (now (marks .entry)) n ++
+        drop (length (markedOf (now (table .entry)) (now (marks .entry)) n)) (now (list .entry))) ⌝ }
 {
     let mut count: usize = 0;
     let mut k: usize = 0;

@@ -1,4 +1,5 @@
-// Writes README's picture of the eight orientations, as SVG: a letter that is stored upright, as each of them shows it. The library says which transforms an orientation means, and the marks of ./draw (crate `canvas`) draw them.
+// Writes README's picture of the eight orientations, as SVG: a letter that is stored upright, as each of them shows it.
+// The library says which transforms an orientation means, and the marks of ./draw (crate `canvas`) draw them.
 use canvas::put;
 use canvas::put_number;
 use canvas::put_with;

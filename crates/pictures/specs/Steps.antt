@@ -1,4 +1,6 @@
--- Q-2: "Rewrite the working of a `clap` edge as the steps a reader would take: common denominator, twice the edge, test for whole, halve." What the code's steps find, each a sentence; `steps-edge` (proofs/EdgeLaws) shows that together they are the edge of specs/Clap, which is the one to believe.
+-- Q-2: "Rewrite the working of a `clap` edge as the steps a reader would take: common denominator, twice the edge, test
+-- for whole, halve." What the code's steps find, each a sentence; `steps-edge` (proofs/EdgeLaws) shows that together
+-- they are the edge of specs/Clap, which is the one to believe.
 --   widthOf W n d          before them: the width n / d, if it is a whole number of at most the side W
 --   common m od            common denominator: the numerator of m pixels over the offset's denominator od
 --   twiceEdge k o          twice the edge: what the crop leaves of the side (k) and twice the offset, a numerator over od; none below 0

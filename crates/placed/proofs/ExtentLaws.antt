@@ -54,7 +54,8 @@ extents-both t u [] = refl
 extents-both t u (e ∷ es) = ap (λ (b : Bool). (t e && u e) && b) (extents-both t u es) ∙ and-pairs (t e) (u e) (allExtents t es) (allExtents u es)
 
 -- the table has as many extents for an item as the file
-pub extents-count : {t head : List ℕ} {pl : Places} {f : File} → TableOf t head pl f → (r n : ℕ) → r < length (f .items) → (r < 256 → n ≡ recordWord t r 8) → n ≡ length (locationOf f (idOf f r) .extents)
+pub extents-count : {t head : List ℕ} {pl : Places} {f : File} → TableOf t head pl f → (r n : ℕ) →
+    r < length (f .items) → (r < 256 → n ≡ recordWord t r 8) → n ≡ length (locationOf f (idOf f r) .extents)
 extents-count v r n h e = e (row-small v r h) ∙ v .extent-count r h
 
 -- goodLengths

@@ -35,16 +35,23 @@ same-leb a b c d there back = by (leb a b) (leb c d) refl refl
     by false false e q = e ∙ sym q
 
 -- within: in bytes of the source, and in places of the file, where the source ends at `end`
-within-before : (total : ℕ) (head : List ℕ) (f : File) (pl : Places) (l : Location) (end : ℕ) → (l .method ≡ 1 → end ≡ pl .idat + length (f .idat)) → ((l .method ≡ 1 → ⊥) → end ≡ total)
+within-before : (total : ℕ) (head : List ℕ) (f : File) (pl : Places) (l : Location) (end : ℕ) →
+    (l .method ≡ 1 → end ≡ pl .idat + length (f .idat)) → ((l .method ≡ 1 → ⊥) → end ≡ total)
     → within (storeOf total head f (l .method)) l ≡ allExtents (λ (e : Extent). leb (fileOffset pl l e + e .size) end) (l .extents)
 unfolding fileOffset pick
-within-before total head f pl l end inside outside = ap (λ (t : Extent → Bool). allExtents t (l .extents)) (fun-ext (λ (e : Extent). by e (eqb (l .method) 1) refl))
+within-before total head f pl l end inside outside = ap (λ (t : Extent → Bool). allExtents t (l .extents))
+    (fun-ext (λ (e : Extent). by e (eqb (l .method) 1) refl))
   where
     by : (e : Extent) (t : Bool) → eqb (l .method) 1 ≡ t
-        → leb (l .base + e .offset + e .size) (pick {A = Store} t (record { size = length (f .idat); known = f .idat }) (record { size = total; known = head }) .size)
+        → leb (l .base + e .offset + e .size) (pick {A = Store} t (record { size = length (f .idat); known = f .idat })
+        (record { size = total; known = head }) .size)
         ≡ leb (pick t (pl .idat) 0 + (l .base + e .offset) + e .size) end
-    by e true q = let z = inside (eqb-true (l .method) 1 q) in same-leb (l .base + e .offset + e .size) (length (f .idat)) (pl .idat + (l .base + e .offset) + e .size) end (λ h. omega arith) (λ h. omega arith)
-    by e false q = let z = outside (eqb-false (l .method) 1 q) in same-leb (l .base + e .offset + e .size) total (0 + (l .base + e .offset) + e .size) end (λ h. omega arith) (λ h. omega arith)
+    by e true q = let z = inside (eqb-true (l .method) 1 q) in
+        same-leb (l .base + e .offset + e .size) (length (f .idat)) (pl .idat + (l .base + e .offset) + e .size) end
+        (λ h. omega arith) (λ h. omega arith)
+    by e false q = let z = outside (eqb-false (l .method) 1 q) in
+        same-leb (l .base + e .offset + e .size) total (0 + (l .base + e .offset) + e .size) end (λ h. omega arith)
+        (λ h. omega arith)
 
 -- the item in row r, by the words of its record
 module _ {t head : List ℕ} {pl : Places} {f : File} (v : TableOf t head pl f) (r : ℕ) (h : r < length (f .items)) where
@@ -57,11 +64,15 @@ module _ {t head : List ℕ} {pl : Places} {f : File} (v : TableOf t head pl f) 
 
     module _ (total : ℕ) where
       pub within-idat : m ≡ 1 → (end : ℕ) → pl .idat + length (f .idat) ≡ end
-          → within (storeOf total head f (locationOf f (idOf f r) .method)) (locationOf f (idOf f r)) ≡ allExtents (λ (e : Extent). leb (fileOffset pl (locationOf f (idOf f r)) e + e .size) end) (locationOf f (idOf f r) .extents)
+          → within (storeOf total head f (locationOf f (idOf f r) .method)) (locationOf f (idOf f r)) ≡ allExtents
+          (λ (e : Extent). leb (fileOffset pl (locationOf f (idOf f r)) e + e .size) end)
+          (locationOf f (idOf f r) .extents)
       within-idat q end z = within-before total head f pl (locationOf f (idOf f r)) end (λ x. sym z) (λ x. absurd (x (sym method-read ∙ q)))
 
       pub within-file : (m ≡ 1 → ⊥)
-          → within (storeOf total head f (locationOf f (idOf f r) .method)) (locationOf f (idOf f r)) ≡ allExtents (λ (e : Extent). leb (fileOffset pl (locationOf f (idOf f r)) e + e .size) total) (locationOf f (idOf f r) .extents)
+          → within (storeOf total head f (locationOf f (idOf f r) .method)) (locationOf f (idOf f r)) ≡ allExtents
+          (λ (e : Extent). leb (fileOffset pl (locationOf f (idOf f r)) e + e .size) total)
+          (locationOf f (idOf f r) .extents)
       within-file q = within-before total head f pl (locationOf f (idOf f r)) total (λ x. absurd (q (method-read ∙ x))) (λ x. refl)
 
     pub reference-here : Judging t f → m ≤ 1 → (d : ℕ) → (r < 256 → d ≡ recordWord t r 10) → eqb d 0 ≡ goodMethod (locationOf f (idOf f r))
@@ -75,7 +86,8 @@ module _ {t head : List ℕ} {pl : Places} {f : File} (v : TableOf t head pl f) 
         rw (nothing-none (locationOf f (idOf f r) .extents) (sym (extents-count v r n h e) ∙ z), ← y) (ap not (sym (and-true b)))
 
     pub bytes-some : (n ≡ 0 → ⊥) → true ≡ hasBytes f (itemAt f r)
-    bytes-some z = sym (ap not (and-false (coded (itemAt f r .type)) _ (λ a b. z (extents-count v r n h e ∙ ap length (nothing-in (locationOf f (idOf f r) .extents) b)))))
+    bytes-some z = sym (ap not (and-false (coded (itemAt f r .type)) _
+        (λ a b. z (extents-count v r n h e ∙ ap length (nothing-in (locationOf f (idOf f r) .extents) b)))))
 
 -- rule13-14: by answers, each needed only where those before it are yes; the lengths apart only where an extent is wrong
 module _ (total : ℕ) (head : List ℕ) (f : File) (i : Item) (good : Bool) (e : good ≡ goodMethod (locationOf f (i .id))) where
@@ -83,7 +95,9 @@ module _ (total : ℕ) (head : List ℕ) (f : File) (i : Item) (good : Bool) (e 
   unfolding rule13-14 faultOf check _>>_
   fault-method n = rw (← e, n) refl
 
-  module _ (y : good ≡ true) (inside : Bool) (q : inside ≡ (goodLengths (locationOf f (i .id)) && within (storeOf total head f (locationOf f (i .id) .method)) (locationOf f (i .id)))) where
+  module _ (y : good ≡ true) (inside : Bool) (q : inside ≡
+      (goodLengths (locationOf f (i .id)) && within (storeOf total head f (locationOf f (i .id) .method))
+      (locationOf f (i .id)))) where
     module _ (n : inside ≡ false) (long : Bool) (p : long ≡ goodLengths (locationOf f (i .id))) where
       pub fault-length : long ≡ false → 13 ≡ faultOf (rule13-14 total head f i)
       unfolding rule13-14 faultOf check _>>_

@@ -41,5 +41,6 @@ module _ {t head : List ℕ} {pl : Places} {f : File} (v : TableOf t head pl f) 
 
     pub primary-shown : image k ≡ true → (h : ℕ) → (r .0 < 256 → h ≡ recordWord t (r .0) 2) → eqb h 0 ≡ goodPrimary f
     primary-shown o h z =
-        let s : h ≡ itemAt f (rowOf (f .primary) (f .items)) .hidden = z (row-small v (r .0) (row-told .1)) ∙ v .hidden (r .0) (row-told .1) ∙ ap (λ (i : ℕ). itemAt f i .hidden) (sym (row-told .0)) in
+        let s : h ≡ itemAt f (rowOf (f .primary) (f .items)) .hidden = z (row-small v (r .0) (row-told .1)) ∙
+        v .hidden (r .0) (row-told .1) ∙ ap (λ (i : ℕ). itemAt f i .hidden) (sym (row-told .0)) in
         rw (← row-type, o, ← s) refl

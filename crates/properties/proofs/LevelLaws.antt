@@ -22,7 +22,8 @@ flat-more [] b = rw append-nil (omega arith)
 flat-more (a ∷ bs) b = let e = flat-more bs b in rw (length-append, length-append) (omega arith)
 
 -- levelOf: one child more, as the first, the second or another
-first : (bs : List (List ℕ)) (b : List ℕ) (kind body end : ℕ) → levelOf bs .count ≡ 0 → kindOf b ≡ kind → length (flat bs) + headOf b ≡ body → length (flat bs) + length b ≡ end
+first : (bs : List (List ℕ)) (b : List ℕ) (kind body end : ℕ) → levelOf bs .count ≡ 0 → kindOf b ≡ kind →
+    length (flat bs) + headOf b ≡ body → length (flat bs) + length b ≡ end
     → record { count = 1; kind0 = kind; body0 = body; end0 = end; kind1 = 0; body1 = 0; end1 = 0 } ≡ levelOf (bs ++ (b ∷ []))
 unfolding levelOf flat
 first [] b kind body end c k h z =
@@ -33,8 +34,17 @@ first (a ∷ []) b kind body end c k h z = absurd (omega arith)
 first (a ∷ d ∷ []) b kind body end c k h z = absurd (omega arith)
 first (a ∷ d ∷ e ∷ bs) b kind body end c k h z = absurd (omega arith)
 
-second : (bs : List (List ℕ)) (b : List ℕ) (kind body end : ℕ) → levelOf bs .count ≡ 1 → kindOf b ≡ kind → length (flat bs) + headOf b ≡ body → length (flat bs) + length b ≡ end
-    → record { count = 2; kind0 = levelOf bs .kind0; body0 = levelOf bs .body0; end0 = levelOf bs .end0; kind1 = kind; body1 = body; end1 = end } ≡ levelOf (bs ++ (b ∷ []))
+second : (bs : List (List ℕ)) (b : List ℕ) (kind body end : ℕ) → levelOf bs .count ≡ 1 → kindOf b ≡ kind →
+    length (flat bs) + headOf b ≡ body → length (flat bs) + length b ≡ end
+    → record {
+      count = 2;
+      kind0 = levelOf bs .kind0;
+      body0 = levelOf bs .body0;
+      end0 = levelOf bs .end0;
+      kind1 = kind;
+      body1 = body;
+      end1 = end;
+    } ≡ levelOf (bs ++ (b ∷ []))
 unfolding levelOf flat
 second [] b kind body end c k h z = absurd (omega arith)
 second (a ∷ []) b kind body end c k h z =
@@ -46,7 +56,16 @@ second (a ∷ d ∷ []) b kind body end c k h z = absurd (omega arith)
 second (a ∷ d ∷ e ∷ bs) b kind body end c k h z = absurd (omega arith)
 
 another : (bs : List (List ℕ)) (b : List ℕ) → (levelOf bs .count ≡ 0 → ⊥) → (levelOf bs .count ≡ 1 → ⊥)
-    → record { count = 3; kind0 = levelOf bs .kind0; body0 = levelOf bs .body0; end0 = levelOf bs .end0; kind1 = levelOf bs .kind1; body1 = levelOf bs .body1; end1 = levelOf bs .end1 } ≡ levelOf (bs ++ (b ∷ []))
+    → record {
+      count = 3;
+      kind0 = levelOf bs .kind0;
+      body0 = levelOf bs .body0;
+      end0 = levelOf bs .end0;
+      kind1 =
+          levelOf bs .kind1;
+      body1 = levelOf bs .body1;
+      end1 = levelOf bs .end1;
+    } ≡ levelOf (bs ++ (b ∷ []))
 unfolding levelOf
 another [] b n m = absurd (n refl)
 another (a ∷ []) b n m = absurd (m refl)
@@ -54,11 +73,21 @@ another (a ∷ d ∷ []) b n m = refl
 another (a ∷ d ∷ e ∷ bs) b n m = refl
 
 -- the same of the code's level l
-module _ (l : Level) (kind body end : ℕ) (bs : List (List ℕ)) (b : List ℕ) (is : l ≡ levelOf bs) (k : kindOf b ≡ kind) (h : length (flat bs) + headOf b ≡ body) (z : length (flat bs) + length b ≡ end) where
+module _ (l : Level) (kind body end : ℕ) (bs : List (List ℕ)) (b : List ℕ) (is : l ≡ levelOf bs) (k : kindOf b ≡ kind)
+    (h : length (flat bs) + headOf b ≡ body) (z : length (flat bs) + length b ≡ end) where
   pub level-first : l .count ≡ 0 → record { count = 1; kind0 = kind; body0 = body; end0 = end; kind1 = 0; body1 = 0; end1 = 0 } ≡ levelOf (bs ++ (b ∷ []))
   level-first c = first bs b kind body end (ap (λ (m : Level). m .count) (sym is) ∙ c) k h z
 
-  pub level-second : l .count ≡ 1 → record { count = 2; kind0 = l .kind0; body0 = l .body0; end0 = l .end0; kind1 = kind; body1 = body; end1 = end } ≡ levelOf (bs ++ (b ∷ []))
+  pub level-second : l .count ≡ 1 → record {
+    count = 2;
+    kind0 = l .kind0;
+    body0 = l .body0;
+    end0 = l .end0;
+    kind1 =
+        kind;
+    body1 = body;
+    end1 = end;
+  } ≡ levelOf (bs ++ (b ∷ []))
   level-second c = rw is (second bs b kind body end (ap (λ (m : Level). m .count) (sym is) ∙ c) k h z)
 
   pub level-another : (l .count ≡ 0 → ⊥) → (l .count ≡ 1 → ⊥)
@@ -105,7 +134,8 @@ module _ (s : List ℕ) (place base : ℕ) where
       b = take (end - at) (drop at s)
 
       pub level-more : (m : Level)
-          → ((bs : List (List ℕ)) (b : List ℕ) → l ≡ levelOf bs → kindOf b ≡ kind → length (flat bs) + headOf b ≡ body → length (flat bs) + length b ≡ end → m ≡ levelOf (bs ++ (b ∷ [])))
+          → ((bs : List (List ℕ)) (b : List ℕ) → l ≡ levelOf bs → kindOf b ≡ kind → length (flat bs) + headOf b ≡ body →
+          length (flat bs) + length b ≡ end → m ≡ levelOf (bs ++ (b ∷ [])))
           → LevelSo m end
       unfolding _>>=_
       level-more m h =

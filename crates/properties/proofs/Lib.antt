@@ -1,8 +1,4 @@
 pub mod CheckLaws
-pub mod KeepLaws
-pub mod AssociationLaws
-pub mod EntryLaws
-pub mod NameLaws
 pub mod LevelLaws
 pub mod PropertyLaws
 pub mod PairLaws

@@ -17,15 +17,16 @@ use Rattle.contents.proofs.PropertyLaws.{properties-sound}
 use Rattle.records.specs.Raw.{rawOf}
 use Rattle.records.specs.Rows.{idsIn}
 use Rattle.records.specs.Stage.{Kept, Ready, withProperties, withNames}
+use Rattle.associations.specs.Told.{toldNames, NamesLeft}
+use Rattle.associations.specs.declared.NamesRead.{NamesRead}
+use Rattle.associations.specs.declared.NamesRead.the-variants as names
+use Rattle.associations.proofs.KeepLaws.{kept-then}
 use Rattle.properties.specs.Told.{toldShown}
-use Rattle.properties.specs.Steps.{toldProperties, PropertiesLeft, toldNames, NamesLeft, pairShown, PairLeft}
+use Rattle.properties.specs.Steps.{toldProperties, PropertiesLeft, pairShown, PairLeft}
 use Rattle.properties.specs.declared.PropertiesRead.{PropertiesRead}
 use Rattle.properties.specs.declared.PropertiesRead.the-variants as properties
-use Rattle.properties.specs.declared.NamesRead.{NamesRead}
-use Rattle.properties.specs.declared.NamesRead.the-variants as names
 use Rattle.properties.specs.declared.ShownRead.{ShownRead}
 use Rattle.properties.specs.declared.ShownRead.the-variants as read
-use Rattle.properties.proofs.KeepLaws.{kept-then}
 
 -- toldProperties, toldNames: what the code's values say
 properties-are : (m : Answer (List (List ℕ))) (k : ℕ) → toldProperties m ≡ properties.Properties k → (ps : List (List ℕ)) × (m ≡ ok ps) × (length ps ≡ k)
@@ -78,7 +79,8 @@ module _ (t : List ℕ) (n base h e : ℕ) (p q : List ℕ) where
 
       module _ (few : n ≤ 256) (w : NamesRead) (v : List ℕ)
           (js : (w ≡ toldNames (whole (ipma-form (idsIn u n) k) (base + e) q)) × NamesLeft (whole (ipma-form (idsIn u n) k) (base + e) q) n u v) where
-        then : (m : Answer (List Named)) → whole (ipma-form (idsIn u n) k) (base + e) q ≡ m → pairAnswer ≡ (m >>= (λ ns. ok (record { properties = these .0; associations = ns })))
+        then : (m : Answer (List Named)) → whole (ipma-form (idsIn u n) k) (base + e) q ≡ m →
+            pairAnswer ≡ (m >>= (λ ns. ok (record { properties = these .0; associations = ns })))
         unfolding pairShown _>>=_
         then m j =
             rw (these .1, these .2)
@@ -101,7 +103,8 @@ module _ (t : List ℕ) (n base h e : ℕ) (p q : List ℕ) where
               record {
                 kept = kept;
                 told = λ pl f x y start ready np na z place.
-                    js .1 .told pl (withProperties f (these .0)) x (ns .0) (ready-with f ready) na (ns .1) (is .1 .told pl f x (these .0) start (ready .bounded) np (these .1) place)
+                    js .1 .told pl (withProperties f (these .0)) x (ns .0) (ready-with f ready) na (ns .1)
+                    (is .1 .told pl f x (these .0) start (ready .bounded) np (these .1) place)
                     ∙ ap (λ (m : Shown). rawOf [] pl (withNames (withProperties f (m .properties)) (m .associations)) ++ x) (ok-inj _ _ (sym a ∙ z));
               },
             )

@@ -1,9 +1,10 @@
 -- The properties of an `ipco`, one at a time: what the loop over them uses. Assumes nothing.
 use Prim.Native.Nat.{ℕ, _+_, _*_, _-_, _≤_, _<_}
 use native.Mathlib.Omega.{arith}
+use native.Mathlib.Numerals.{towards-suc}
 use mathlib.Core.Path.{_≡_, refl, sym, ap, _∙_, subst}
 use mathlib.Core.List.{List, [], _∷_, _++_}
-use lib.ListN.{length, take, drop, length-append}
+use lib.ListN.{length, take, drop, set, length-append}
 use lib.Seq.{sets}
 use lib.Dec.{ltb}
 use borrow.Author.Tests.{ltb-true, lt-ltb, le-ltb}
@@ -21,13 +22,19 @@ use Rattle.rules.specs.Places.{Places}
 use Rattle.records.specs.Raw.{Bounded, rawOf}
 use Rattle.records.specs.Stage.{withProperties}
 use Rattle.records.proofs.RawLaws.{raw-property}
-use Rattle.properties.specs.Steps.{KeptIds, toldChecked, nextProperty, AddedIs, toldProperties, PropertiesLeft}
+use Rattle.associations.specs.Told.{KeptIds}
+use Rattle.associations.proofs.KeepLaws.{kept-self, kept-then, sets-high}
+use Rattle.properties.specs.Steps.{toldChecked, nextProperty, AddedIs, toldProperties, PropertiesLeft}
 use Rattle.properties.specs.declared.Checked.{Checked}
 use Rattle.properties.specs.declared.Checked.the-variants as checked
 use Rattle.properties.specs.declared.PropertiesRead.{PropertiesRead}
 use Rattle.properties.specs.declared.PropertiesRead.the-variants as properties
-use Rattle.properties.proofs.KeepLaws.{kept-self, kept-then, sets-high}
 use Rattle.properties.proofs.LevelLaws.{flat-more}
+
+-- sets, as the code's stores
+module _ (t : List ℕ) where
+  pub four-stores : (a b w x y z : ℕ) → a ≡ b → set (set (set (set t a w) (a + 1) x) (a + 2) y) (a + 3) z ≡ sets t b (w ∷ x ∷ y ∷ z ∷ [])
+  four-stores a b w x y z e = rw (← e) (simp towards-suc)
 
 -- toldChecked: what the code's value says
 checked-good : (m : Answer (Unit {0})) → checked.Good ≡ toldChecked m → m ≡ ok tt
@@ -118,7 +125,8 @@ module _ (s : List ℕ) (place base : ℕ) (t₀ : List ℕ) where
     pub few : n ≤ 256
     pub same : propertiesAnswer ≡ childrenFrom property place base s at boxes
     pub kept : KeptIds t₀ t
-    pub told : (pl : Places) (f : File) (x : List ℕ) → pl .properties ≡ base → Bounded f → f .properties ≡ [] → t₀ ≡ rawOf [] pl f ++ x → t ≡ rawOf [] pl (withProperties f boxes) ++ x
+    pub told : (pl : Places) (f : File) (x : List ℕ) → pl .properties ≡ base → Bounded f → f .properties ≡ [] →
+        t₀ ≡ rawOf [] pl f ++ x → t ≡ rawOf [] pl (withProperties f boxes) ++ x
 
   pub properties-begin : PropertiesSo t₀ 0 0
   unfolding flat
@@ -159,7 +167,8 @@ module _ (s : List ℕ) (place base : ℕ) (t₀ : List ℕ) where
           ap properties.Properties (sym (so .count)) ∙ sym (ap toldProperties q),
           record {
             same = so .kept;
-            told = λ pl f x ps start bd none g is. so .told pl f x start bd none is ∙ ap (λ (l : List (List ℕ)). rawOf [] pl (withProperties f l) ++ x) (ok-inj _ _ (sym q ∙ g));
+            told = λ pl f x ps start bd none g is. so .told pl f x start bd none is ∙
+                ap (λ (l : List (List ℕ)). rawOf [] pl (withProperties f l) ++ x) (ok-inj _ _ (sym q ∙ g));
           },
         )
 
@@ -174,11 +183,15 @@ module _ (s : List ℕ) (place base : ℕ) (t₀ : List ℕ) where
       pub properties-further : (at < body) × (body ≤ end) × (end ≤ length s)
       properties-further = let w = there in (w .order .0, w .order .1, w .inside)
 
-      step : (m : Answer (List (List ℕ))) → property (base + at) (so .boxes) b ≡ m → childrenFrom property place base s at (so .boxes) ≡ (m >>= (λ z. childrenFrom property place base s end z))
-      step m h = from-box s at property place base (so .boxes) kind body end e ∙ ap (λ (a : Answer (List (List ℕ))). a >>= (λ z. childrenFrom property place base s end z)) h
+      step : (m : Answer (List (List ℕ))) → property (base + at) (so .boxes) b ≡ m →
+          childrenFrom property place base s at (so .boxes) ≡ (m >>= (λ z. childrenFrom property place base s end z))
+      step m h = from-box s at property place base (so .boxes) kind body end e ∙
+          ap (λ (a : Answer (List (List ℕ))). a >>= (λ z. childrenFrom property place base s end z)) h
 
-      module _ (r : Checked) (u : List ℕ) (is : AddedIs (nextProperty n kind (base + at) (take (end - body) (drop body s))) n kind (base + at) (end - at) t u r) where
-        next-is : (m : Answer (Unit {0})) → nextProperty n kind (base + at) (take (end - body) (drop body s)) ≡ m → nextProperty (length (so .boxes)) (kindOf b) (base + at) (bodyOf b) ≡ m
+      module _ (r : Checked) (u : List ℕ) (is : AddedIs
+          (nextProperty n kind (base + at) (take (end - body) (drop body s))) n kind (base + at) (end - at) t u r) where
+        next-is : (m : Answer (Unit {0})) → nextProperty n kind (base + at) (take (end - body) (drop body s)) ≡ m →
+            nextProperty (length (so .boxes)) (kindOf b) (base + at) (bodyOf b) ≡ m
         next-is m h =
             ap (λ (i : ℕ). nextProperty i (kindOf b) (base + at) (bodyOf b)) (so .count)
             ∙ ap (λ (k : ℕ). nextProperty n k (base + at) (bodyOf b)) (there .its-kind)
@@ -217,7 +230,9 @@ module _ (s : List ℕ) (place base : ℕ) (t₀ : List ℕ) where
             }
           where
             words : (pl : Places) → pl .properties ≡ base
-                → sets t (4112 + 4 * n) (kind ∷ (base + at) ∷ (end - at) ∷ 0 ∷ []) ≡ sets t (4112 + 4 * length (so .boxes)) (kindOf b ∷ (pl .properties + length (flat (so .boxes))) ∷ length b ∷ 0 ∷ [])
+                → sets t (4112 + 4 * n) (kind ∷ (base + at) ∷ (end - at) ∷ 0 ∷ []) ≡ sets t
+                (4112 + 4 * length (so .boxes)) (kindOf b ∷ (pl .properties + length (flat (so .boxes))) ∷
+                length b ∷ 0 ∷ [])
             words pl start =
                 let i : 4112 + 4 * n ≡ 4112 + 4 * length (so .boxes) = omega (arith, so .count) in
                 let j : base + at ≡ pl .properties + length (flat (so .boxes)) = omega (arith, so .size) in

@@ -97,7 +97,8 @@ module _ (a b : List ℕ) (first-box : IsBox a) (second-box : IsBox b) where
   -- where l is what the code keeps of the two
   pair-parts : (ids : List ℕ) (base : ℕ) (s : List ℕ) (l : Level) → a ++ b ≡ s
       → l ≡ record { count = 2; kind0 = kindOf a; body0 = headOf a; end0 = length a; kind1 = kindOf b; body1 = length a + headOf b; end1 = length a + length b }
-      → pairShown ids base (headOf a) (length a) (bodyOf a) (bodyOf b) ≡ pairShown ids base (l .body0) (l .end0) (take (l .end0 - l .body0) (drop (l .body0) s)) (take (l .end1 - l .body1) (drop (l .body1) s))
+      → pairShown ids base (headOf a) (length a) (bodyOf a) (bodyOf b) ≡ pairShown ids base (l .body0) (l .end0)
+      (take (l .end0 - l .body0) (drop (l .body0) s)) (take (l .end1 - l .body1) (drop (l .body1) s))
   pair-parts ids base s l j e = rw (e, ← j, first-part, second-part)
 
 -- shown
@@ -159,7 +160,15 @@ module _ (s : List ℕ) (place base n : ℕ) (t : List ℕ) where
         abbrev b : List ℕ
         b = both .second
 
-        level-is : l ≡ record { count = 2; kind0 = kindOf a; body0 = headOf a; end0 = length a; kind1 = kindOf b; body1 = length a + headOf b; end1 = length a + length b }
+        level-is : l ≡ record {
+          count = 2;
+          kind0 = kindOf a;
+          body0 = headOf a;
+          end0 = length a;
+          kind1 = kindOf b;
+          body1 = length a + headOf b;
+          end1 = length a + length b;
+        }
         unfolding levelOf
         level-is = these .2 ∙ ap levelOf (both .are)
 
@@ -185,12 +194,17 @@ module _ (s : List ℕ) (place base n : ℕ) (t : List ℕ) where
               ap (pairOf place) (both .are)
               ∙ pair-complete place a b (ap (λ (m : Level). m .kind0) (sym level-is) ∙ h) (ap (λ (m : Level). m .kind1) (sym level-is) ∙ k)
 
-          same : (ids : List ℕ) → shown ids place base s ≡ pairShown ids base (l .body0) (l .end0) (take (l .end0 - l .body0) (drop (l .body0) s)) (take (l .end1 - l .body1) (drop (l .body1) s))
-          same ids = shown-pair ids place base s (these .0) (these .1) _ paired ∙ pair-parts a b (both .first-box) (both .second-box) ids base s l (both .joined) level-is
+          same : (ids : List ℕ) → shown ids place base s ≡ pairShown ids base (l .body0) (l .end0)
+              (take (l .end0 - l .body0) (drop (l .body0) s)) (take (l .end1 - l .body1) (drop (l .body1) s))
+          same ids = shown-pair ids place base s (these .0) (these .1) _ paired ∙
+              pair-parts a b (both .first-box) (both .second-box) ids base s l (both .joined) level-is
 
           pub shown-both : (m : ShownRead) (u : List ℕ)
-              → (m ≡ toldShown (pairShown (idsIn t n) base (l .body0) (l .end0) (take (l .end0 - l .body0) (drop (l .body0) s)) (take (l .end1 - l .body1) (drop (l .body1) s))))
-              × PairLeft (pairShown (idsIn t n) base (l .body0) (l .end0) (take (l .end0 - l .body0) (drop (l .body0) s)) (take (l .end1 - l .body1) (drop (l .body1) s))) (base + l .body0) n t u
+              → (m ≡ toldShown (pairShown (idsIn t n) base (l .body0) (l .end0)
+              (take (l .end0 - l .body0) (drop (l .body0) s)) (take (l .end1 - l .body1) (drop (l .body1) s))))
+              × PairLeft (pairShown (idsIn t n) base (l .body0) (l .end0)
+              (take (l .end0 - l .body0) (drop (l .body0) s)) (take (l .end1 - l .body1) (drop (l .body1) s))) (base
+              + l .body0) n t u
               → ShownTells m u
           shown-both m u q = (
             q .0 ∙ ap toldShown (sym (same (idsIn t n))),

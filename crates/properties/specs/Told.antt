@@ -24,4 +24,6 @@ toldShown (refuse n p) = read.Refused (record { number = n; place = p })
 -- the first property begins behind the header of the first box of s
 pub record ShownLeft (s : List ℕ) (place base n : ℕ) (t u : List ℕ) : Type 0 where
   pub kept : Kept t u
-  pub told : (pl : Places) (f : File) (x : List ℕ) (v : Shown) → pl .properties ≡ base + headOf s → Ready f n → f .properties ≡ [] → f .associations ≡ [] → shown (idsOf (f .items)) place base s ≡ ok v → t ≡ rawOf [] pl f ++ x → u ≡ rawOf [] pl (withNames (withProperties f (v .properties)) (v .associations)) ++ x
+  pub told : (pl : Places) (f : File) (x : List ℕ) (v : Shown) → pl .properties ≡ base + headOf s → Ready f n →
+      f .properties ≡ [] → f .associations ≡ [] → shown (idsOf (f .items)) place base s ≡ ok v → t ≡ rawOf [] pl f ++
+      x → u ≡ rawOf [] pl (withNames (withProperties f (v .properties)) (v .associations)) ++ x

@@ -16,7 +16,8 @@ use Rattle.contents.proofs.LimitLaws.{extents-few, associations-few, references
 pub iloc-few : (ids : List ℕ) (p : ℕ) (s : List ℕ) (ls : List Location) → whole (iloc-form ids) p s ≡ ok ls → extentsIn ls ≤ 512
 iloc-few ids p s ls e = extents-few ids s ls (whole-sound (iloc-form ids) p s ls e)
 
-pub shown-few : (ids : List ℕ) (p at : ℕ) (s : List ℕ) (v : Shown) → shown ids p at s ≡ ok v → (length (v .properties) ≤ 256) × (associationsIn (v .associations) ≤ 2048)
+pub shown-few : (ids : List ℕ) (p at : ℕ) (s : List ℕ) (v : Shown) → shown ids p at s ≡ ok v →
+    (length (v .properties) ≤ 256) × (associationsIn (v .associations) ≤ 2048)
 shown-few ids p at s v e = let h = shown-sound ids p at s v e in (h .properties .few, associations-few ids _ _ _ (h .associations))
 
 pub iref-few : (ids : List ℕ) (p at : ℕ) (s : List ℕ) (ds : List Derivation) → references ids p at s ≡ ok ds → targetsIn ds ≤ 2048

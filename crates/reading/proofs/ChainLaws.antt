@@ -64,7 +64,14 @@ module _ (at : ℕ) (bs : List (List ℕ)) (primary : ℕ) (is : List Item) (ls 
   shown-on v e = ok-bind _ _ v e
 
 -- the last stage begins
-pub last-begins : (s : List ℕ) (at n : ℕ) (is : List Item) (ls : List Location) (x t u : List ℕ) (v : Shown) (p k e : ℕ) → Before s at n (withLocations (withItems is) ls) x t → shown (idsOf is) (placeOf iprp at (kids s)) (beginOf at (kids s) iprp) (contentOf at (kids s) iprp) ≡ ok v → u ≡ rawOf [] (placesAt at (kids s)) (withNames (withProperties (withLocations (withItems is) ls) (v .properties)) (v .associations)) ++ x → length (v .properties) ≡ p → associationsIn (v .associations) ≡ k → extentsIn ls ≡ e → LastBefore s at (record { items = n; properties = p; associations = k; targets = 0; extents = e }) (withNames (withProperties (withLocations (withItems is) ls) (v .properties)) (v .associations)) x u
+pub last-begins : (s : List ℕ) (at n : ℕ) (is : List Item) (ls : List Location) (x t u : List ℕ) (v : Shown)
+    (p k e : ℕ) → Before s at n (withLocations (withItems is) ls) x t →
+    shown (idsOf is) (placeOf iprp at (kids s)) (beginOf at (kids s) iprp) (contentOf at (kids s) iprp) ≡ ok v →
+    u ≡ rawOf [] (placesAt at (kids s))
+    (withNames (withProperties (withLocations (withItems is) ls) (v .properties)) (v .associations)) ++ x →
+    length (v .properties) ≡ p → associationsIn (v .associations) ≡ k → extentsIn ls ≡ e →
+    LastBefore s at (record { items = n; properties = p; associations = k; targets = 0; extents = e })
+    (withNames (withProperties (withLocations (withItems is) ls) (v .properties)) (v .associations)) x u
 last-begins s at n is ls x t u v p k e b q w hp hk he =
     let few = shown-few _ _ _ _ v q in
     let bd = b .ready .bounded in
@@ -76,7 +83,13 @@ last-begins s at n is ls x t u v p k e b q w hp hk he =
                 record {
                   count = b .ready .count;
                   distinct = b .ready .distinct;
-                  bounded = record { few-items = bd .few-items; few-extents = bd .few-extents; few-properties = few .0; few-associations = few .1; few-targets = bd .few-targets };
+                  bounded = record {
+                    few-items = bd .few-items;
+                    few-extents = bd .few-extents;
+                    few-properties = few .0;
+                    few-associations = few .1;
+                    few-targets = bd .few-targets;
+                  };
                 };
           };
       none = refl;
@@ -100,7 +113,10 @@ module _ (at : ℕ) (bs : List (List ℕ)) (primary : ℕ) (is : List Item) wher
   locations-on ls e = ok-bind _ _ ls e
 
 -- the stage of `iprp` begins
-pub shown-begins : (s : List ℕ) (at n : ℕ) (is : List Item) (x t u : List ℕ) (ls : List Location) → Before s at n (withItems is) x t → whole (iloc-form (idsOf is)) (placeOf iloc at (kids s)) (contentOf at (kids s) iloc) ≡ ok ls → u ≡ rawOf [] (placesAt at (kids s)) (withLocations (withItems is) ls) ++ x → Before s at n (withLocations (withItems is) ls) x u
+pub shown-begins : (s : List ℕ) (at n : ℕ) (is : List Item) (x t u : List ℕ) (ls : List Location) →
+    Before s at n (withItems is) x t → whole (iloc-form (idsOf is)) (placeOf iloc at (kids s))
+    (contentOf at (kids s) iloc) ≡ ok ls → u ≡ rawOf [] (placesAt at (kids s)) (withLocations (withItems is) ls) ++ x →
+    Before s at n (withLocations (withItems is) ls) x u
 shown-begins s at n is x t u ls b q w =
     let bd = b .ready .bounded in
     record {
@@ -109,28 +125,41 @@ shown-begins s at n is x t u ls b q w =
           record {
             count = b .ready .count;
             distinct = b .ready .distinct;
-            bounded = record { few-items = bd .few-items; few-extents = iloc-few _ _ _ ls q; few-properties = bd .few-properties; few-associations = bd .few-associations; few-targets = bd .few-targets };
+            bounded = record {
+              few-items = bd .few-items;
+              few-extents = iloc-few _ _ _ ls q;
+              few-properties =
+                  bd .few-properties;
+              few-associations = bd .few-associations;
+              few-targets = bd .few-targets;
+            };
           };
     }
 
 -- fromItems, fromHandler
 module _ (at : ℕ) (bs : List (List ℕ)) where
-  pub items-gone : (primary : ℕ) (r : Refusal) → items (placeOf iinf at bs) (beginOf at bs iinf) (contentOf at bs iinf) ≡ refuse (r .number) (r .place) → fromItems at bs primary ≡ refuse (r .number) (r .place)
+  pub items-gone : (primary : ℕ) (r : Refusal) → items (placeOf iinf at bs) (beginOf at bs iinf) (contentOf at bs iinf)
+      ≡ refuse (r .number) (r .place) → fromItems at bs primary ≡ refuse (r .number) (r .place)
   unfolding fromItems
   items-gone primary r e = refuse-bind _ _ r e
 
-  pub items-on : (primary : ℕ) (is : List Item) → items (placeOf iinf at bs) (beginOf at bs iinf) (contentOf at bs iinf) ≡ ok is → fromItems at bs primary ≡ fromLocations at bs primary is
+  pub items-on : (primary : ℕ) (is : List Item) → items (placeOf iinf at bs) (beginOf at bs iinf) (contentOf at bs iinf)
+      ≡ ok is → fromItems at bs primary ≡ fromLocations at bs primary is
   unfolding fromItems
   items-on primary is e = ok-bind _ _ is e
 
-  pub handler-gone : (r : Refusal) → front hdlr-form (placeOf hdlr at bs) (contentOf at bs hdlr) ≡ refuse (r .number) (r .place) → fromHandler at bs ≡ refuse (r .number) (r .place)
+  pub handler-gone : (r : Refusal) → front hdlr-form (placeOf hdlr at bs) (contentOf at bs hdlr) ≡ refuse (r .number)
+      (r .place) → fromHandler at bs ≡ refuse (r .number) (r .place)
   unfolding fromHandler _>>_
   handler-gone r e = rw e
 
-  pub primary-gone : front hdlr-form (placeOf hdlr at bs) (contentOf at bs hdlr) ≡ ok tt → (r : Refusal) → whole pitm-form (placeOf pitm at bs) (contentOf at bs pitm) ≡ refuse (r .number) (r .place) → fromHandler at bs ≡ refuse (r .number) (r .place)
+  pub primary-gone : front hdlr-form (placeOf hdlr at bs) (contentOf at bs hdlr) ≡ ok tt → (r : Refusal) →
+      whole pitm-form (placeOf pitm at bs) (contentOf at bs pitm) ≡ refuse (r .number) (r .place) →
+      fromHandler at bs ≡ refuse (r .number) (r .place)
   unfolding fromHandler _>>_
   primary-gone h r e = rw h (refuse-bind _ _ r e)
 
-  pub primary-on : front hdlr-form (placeOf hdlr at bs) (contentOf at bs hdlr) ≡ ok tt → (id : ℕ) → whole pitm-form (placeOf pitm at bs) (contentOf at bs pitm) ≡ ok id → fromHandler at bs ≡ fromItems at bs id
+  pub primary-on : front hdlr-form (placeOf hdlr at bs) (contentOf at bs hdlr) ≡ ok tt → (id : ℕ) →
+      whole pitm-form (placeOf pitm at bs) (contentOf at bs pitm) ≡ ok id → fromHandler at bs ≡ fromItems at bs id
   unfolding fromHandler _>>_
   primary-on h id e = rw h (ok-bind _ _ id e)

@@ -38,21 +38,34 @@ abbrev pub seat : List Spot → ℕ → Spot
 seat spots j = getD spots j (record { start = 0; body = 0; end = 0 })
 
 -- a spot that ends somewhere is that of the child of its type
-pub seat-is : (s : List ℕ) (at : ℕ) (spots : List Spot) → Standing s spots → (j k : ℕ) → seat spots j ≡ spotOf (whereOf k 0 (kids s)) → (seat spots j .end ≡ 0 → ⊥) → SpotIs s at k (kids s) (seat spots j)
-seat-is s at spots st j k e h = rw e (spot-is s (kids s) (boxes-all s at spots st) (boxes-joined s at spots st) at k (there k (kids s) (λ z. h (ap (λ (p : Spot). p .end) e ∙ z))))
+pub seat-is : (s : List ℕ) (at : ℕ) (spots : List Spot) → Standing s spots → (j k : ℕ) →
+    seat spots j ≡ spotOf (whereOf k 0 (kids s)) → (seat spots j .end ≡ 0 → ⊥) → SpotIs s at k (kids s) (seat spots j)
+seat-is s at spots st j k e h = rw e (spot-is s (kids s) (boxes-all s at spots st) (boxes-joined s at spots st) at k
+    (there k (kids s) (λ z. h (ap (λ (p : Spot). p .end) e ∙ z))))
 
 -- what a child lies within
-pub seat-within : (s : List ℕ) (at : ℕ) (spots : List Spot) → Standing s spots → at + length s ≤ 65536 → (j k : ℕ) → seat spots j ≡ spotOf (whereOf k 0 (kids s)) → (seat spots j .end ≡ 0 → ⊥) → (seat spots j .body ≤ seat spots j .end) × (seat spots j .end ≤ length s) × (at + seat spots j .start ≤ 65536) × (at + seat spots j .body ≤ 65536)
-seat-within s at spots st l j k e h = let i = seat-is s at spots st j k e h in let a = i .head in let b = i .order in let d = i .upto in (b, d, omega arith, omega arith)
+pub seat-within : (s : List ℕ) (at : ℕ) (spots : List Spot) → Standing s spots → at + length s ≤ 65536 → (j k : ℕ) →
+    seat spots j ≡ spotOf (whereOf k 0 (kids s)) → (seat spots j .end ≡ 0 → ⊥) →
+    (seat spots j .body ≤ seat spots j .end) × (seat spots j .end ≤ length s) × (at + seat spots j .start ≤ 65536) ×
+    (at + seat spots j .body ≤ 65536)
+seat-within s at spots st l j k e h = let i = seat-is s at spots st j k e h in let a = i .head in let b = i .order in
+    let d = i .upto in (b, d, omega arith, omega arith)
 
-pub iref-within : (s : List ℕ) (at : ℕ) (spots : List Spot) → Standing s spots → at + length s ≤ 65536 → (seat spots 5 .end ≡ 0 → ⊥) → (seat spots 5 .body ≤ seat spots 5 .end) × (seat spots 5 .end ≤ length s) × (at + seat spots 5 .start ≤ 65536) × (at + seat spots 5 .body ≤ 65536)
+pub iref-within : (s : List ℕ) (at : ℕ) (spots : List Spot) → Standing s spots → at + length s ≤ 65536 →
+    (seat spots 5 .end ≡ 0 → ⊥) → (seat spots 5 .body ≤ seat spots 5 .end) × (seat spots 5 .end ≤ length s) ×
+    (at + seat spots 5 .start ≤ 65536) × (at + seat spots 5 .body ≤ 65536)
 iref-within s at spots st l h = seat-within s at spots st l 5 iref (ap (λ (y : List Spot). seat y 5) (st .spots-are)) h
 
 -- a part begins where its place says and ends within the head
-pub part-room : (s : List ℕ) (at : ℕ) (p : Spot) (l : at + length s ≤ 65536) → (p .body ≤ p .end) × (p .end ≤ length s) × (at + p .start ≤ 65536) × (at + p .body ≤ 65536) → at + p .body + length (take (p .end - p .body) (drop (p .body) s)) ≤ 65536
-part-room s at p l h = let e : length (take (p .end - p .body) (drop (p .body) s)) ≡ p .end - p .body = simp (length-take, length-drop) (omega arith) in omega arith
+pub part-room : (s : List ℕ) (at : ℕ) (p : Spot) (l : at + length s ≤ 65536) → (p .body ≤ p .end) ×
+    (p .end ≤ length s) × (at + p .start ≤ 65536) × (at + p .body ≤ 65536) →
+    at + p .body + length (take (p .end - p .body) (drop (p .body) s)) ≤ 65536
+part-room s at p l h = let e : length (take (p .end - p .body) (drop (p .body) s)) ≡ p .end - p .body =
+    simp (length-take, length-drop) (omega arith) in omega arith
 
-pub part-fits : (s : List ℕ) (at : ℕ) (p : Spot) (l : at + length s ≤ 65536) → (p .body ≤ p .end) × (p .end ≤ length s) × (at + p .start ≤ 65536) × (at + p .body ≤ 65536) → at + p .body + length (take (p .end - p .body) (drop (p .body) s)) < 18446744073709551616
+pub part-fits : (s : List ℕ) (at : ℕ) (p : Spot) (l : at + length s ≤ 65536) → (p .body ≤ p .end) ×
+    (p .end ≤ length s) × (at + p .start ≤ 65536) × (at + p .body ≤ 65536) →
+    at + p .body + length (take (p .end - p .body) (drop (p .body) s)) < 18446744073709551616
 part-fits s at p l h = let e = part-room s at p l h in omega arith
 
 -- Kept: stores into the first words
@@ -78,14 +91,16 @@ head-kept t u a b c d e f g h w =
     (set-kept t t1 1 b (lit< tt)
     (set-kept t t 0 a (lit< tt) (kept-same t)))))))))
 
-pub counts-few : (s : List ℕ) (at : ℕ) (c : Counts) (f : File) (x t : List ℕ) → LastBefore s at c f x t → (c .items ≤ 256) × (c .properties ≤ 256) × (c .associations ≤ 2048) × (c .targets ≤ 2048) × (c .extents ≤ 512)
+pub counts-few : (s : List ℕ) (at : ℕ) (c : Counts) (f : File) (x t : List ℕ) → LastBefore s at c f x t →
+    (c .items ≤ 256) × (c .properties ≤ 256) × (c .associations ≤ 2048) × (c .targets ≤ 2048) × (c .extents ≤ 512)
 counts-few s at c f x t l =
     let b = l .before .ready .bounded in
     let i = b .few-items in let p = b .few-properties in let a = b .few-associations in let e = b .few-extents in
     let n = l .before .ready .count in let q = l .properties in let r = l .associations in let z = l .targets in let y = l .extents in
     (omega arith, omega arith, omega arith, omega arith, omega arith)
 
-module _ (s : List ℕ) (at total primary : ℕ) (spots : List Spot) (st : Standing s spots) (c : Counts) (f : File) (x t : List ℕ) (l : LastBefore s at c f x t) where
+module _ (s : List ℕ) (at total primary : ℕ) (spots : List Spot) (st : Standing s spots) (c : Counts) (f : File)
+    (x t : List ℕ) (l : LastBefore s at c f x t) where
   abbrev here : Spot
   here = seat spots 5
 
@@ -96,7 +111,8 @@ module _ (s : List ℕ) (at total primary : ℕ) (spots : List Spot) (st : Stand
   result r u = After s at total (fromReferences at (kids s) primary (f .items) (f .locations) (shownOf f)) r x u
 
   abbrev stored : ℕ → List ℕ → List ℕ
-  stored n y = set (set (set (set (set (set (set (set y 0 (c .items)) 1 (c .properties)) 2 (c .associations)) 3 n) 4 (c .extents)) 5 primary) 6 (total / 4294967296)) 7 (total % 4294967296)
+  stored n y = set (set (set (set (set (set (set (set y 0 (c .items)) 1 (c .properties)) 2 (c .associations)) 3 n) 4
+      (c .extents)) 5 primary) 6 (total / 4294967296)) 7 (total % 4294967296)
 
   none-yet : rawOf [] (placesAt at (kids s)) f ≡ rawOf [] (placesAt at (kids s)) (withDerivations f [])
   unfolding rawOf
@@ -106,7 +122,8 @@ module _ (s : List ℕ) (at total primary : ℕ) (spots : List Spot) (st : Stand
   unfolding targetsIn
   last-none h u w r a =
       after-read s at total primary c f x t t u l [] (c .targets) (sym (l .targets))
-      (references-none s at spots st primary (f .items) (f .locations) (shownOf f) (not-there iref (kids s) (boxes-all s at spots st) (ap (λ (p : Spot). p .end) (sym here-is) ∙ h)))
+      (references-none s at spots st primary (f .items) (f .locations) (shownOf f)
+      (not-there iref (kids s) (boxes-all s at spots st) (ap (λ (p : Spot). p .end) (sym here-is) ∙ h)))
       (l .before .is ∙ ap (λ (y : List ℕ). y ++ x) none-yet) w r a
 
   module _ (h : here .end ≡ 0 → ⊥) where
@@ -119,21 +136,30 @@ module _ (s : List ℕ) (at total primary : ℕ) (spots : List Spot) (st : Stand
     -- the answer of the code is that of the definition
     module _ (part : List ℕ) (pe : part ≡ take (here .end - here .body) (drop (here .body) s)) where
       abbrev meant : Answer (List Derivation)
-      meant = references (idsOf (f .items)) (placeOf iref at (kids s)) (placeOf iref at (kids s) + headOf (firstOf iref (kids s))) (bodyOf (firstOf iref (kids s)))
+      meant = references (idsOf (f .items)) (placeOf iref at (kids s))
+          (placeOf iref at (kids s) + headOf (firstOf iref (kids s))) (bodyOf (firstOf iref (kids s)))
 
       same : references (idsIn t (c .items)) (at + here .start) (at + here .body) part ≡ meant
       same = rw (ids-are s at (c .items) f x t (l .before), is-here .place, is-here .begin, pe, is-here .part) refl
 
-      pub last-gone : (r : Refusal) → toldReferences (references (idsIn t (c .items)) (at + here .start) (at + here .body) part) ≡ told.Refused r → (u : List ℕ) → result (Refused r) u
-      last-gone r e u = after-refused s at total _ r x u (references-gone s at spots st primary (f .items) (f .locations) (shownOf f) has r (sym same ∙ references-refused _ r e))
+      pub last-gone : (r : Refusal) → toldReferences (references (idsIn t (c .items)) (at + here .start)
+          (at + here .body) part) ≡ told.Refused r → (u : List ℕ) → result (Refused r) u
+      last-gone r e u = after-refused s at total _ r x u
+          (references-gone s at spots st primary (f .items) (f .locations) (shownOf f) has r
+          (sym same ∙ references-refused _ r e))
 
       pub last-few : (k : ℕ) → toldReferences (references (idsIn t (c .items)) (at + here .start) (at + here .body) part) ≡ told.Targets k → k ≤ 2048
       last-few k e = let o = references-ok _ k e in let b = iref-few _ _ _ _ (o .0) (o .1) in omega (arith, o .2)
 
-      pub last-read : (k : ℕ) → toldReferences (references (idsIn t (c .items)) (at + here .start) (at + here .body) part) ≡ told.Targets k → (v u : List ℕ) → ReferencesLeft part (at + here .start) (at + here .body) (c .items) t v → u ≡ stored k v → (r : FileRead) → r ≡ toldSpot at s → result r u
+      pub last-read : (k : ℕ) → toldReferences (references (idsIn t (c .items)) (at + here .start) (at + here .body)
+          part) ≡ told.Targets k → (v u : List ℕ) →
+          ReferencesLeft part (at + here .start) (at + here .body) (c .items) t v → u ≡ stored k v → (r : FileRead) →
+          r ≡ toldSpot at s → result r u
       last-read k e v u left w r a =
           let o = references-ok _ k e in
           let m : meant ≡ ok (o .0) = sym same ∙ o .1 in
           after-read s at total primary c f x t v u l (o .0) k (o .2)
           (references-read s at spots st primary (f .items) (f .locations) (shownOf f) has (o .0) m)
-          (left .told (placesAt at (kids s)) f x (o .0) (l .before .ready) (l .none) (ap (λ (ids : List ℕ). references ids (at + here .start) (at + here .body) part) (sym (ids-are s at (c .items) f x t (l .before))) ∙ o .1) (l .before .is)) w r a
+          (left .told (placesAt at (kids s)) f x (o .0) (l .before .ready) (l .none)
+          (ap (λ (ids : List ℕ). references ids (at + here .start) (at + here .body) part)
+          (sym (ids-are s at (c .items) f x t (l .before))) ∙ o .1) (l .before .is)) w r a

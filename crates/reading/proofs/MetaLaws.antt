@@ -89,6 +89,7 @@ module _ (total : ℕ) (head : List ℕ) where
     read-meta m e = opened ∙ ok-bind _ _ m e
 
 -- placesIn
-pub places-are : (total : ℕ) (head : List ℕ) (m : Top.Spot) → metaIn total head ≡ ok m → placesIn total head ≡ placesAt (m .place + headOf (m .box) + 4) (kids (drop 4 (bodyOf (m .box))))
+pub places-are : (total : ℕ) (head : List ℕ) (m : Top.Spot) → metaIn total head ≡ ok m →
+    placesIn total head ≡ placesAt (m .place + headOf (m .box) + 4) (kids (drop 4 (bodyOf (m .box))))
 unfolding placesBy
 places-are total head m e = ap placesBy e

@@ -32,11 +32,13 @@ use Rattle.reading.proofs.ToldLaws.{locations-ok, locations-refused, sh
 use Rattle.reading.proofs.LastLaws.{seat}
 
 -- the spot of a child that is there
-module _ (s : List ℕ) (at : ℕ) (spots : List Spot) (st : Standing s spots) (j k : ℕ) (e : seat spots j ≡ spotOf (whereOf k 0 (kids s))) (has : Has k (kids s)) where
+module _ (s : List ℕ) (at : ℕ) (spots : List Spot) (st : Standing s spots) (j k : ℕ)
+    (e : seat spots j ≡ spotOf (whereOf k 0 (kids s))) (has : Has k (kids s)) where
   pub child-is : SpotIs s at k (kids s) (seat spots j)
   child-is = rw e (spot-is s (kids s) (boxes-all s at spots st) (boxes-joined s at spots st) at k has)
 
-  pub child-within : at + length s ≤ 65536 → (seat spots j .body ≤ seat spots j .end) × (seat spots j .end ≤ length s) × (at + seat spots j .start ≤ 65536) × (at + seat spots j .body ≤ 65536)
+  pub child-within : at + length s ≤ 65536 → (seat spots j .body ≤ seat spots j .end) × (seat spots j .end ≤ length s) ×
+      (at + seat spots j .start ≤ 65536) × (at + seat spots j .body ≤ 65536)
   child-within l = let i = child-is in let a = i .head in let b = i .order in let d = i .upto in (b, d, omega arith, omega arith)
 
 -- `iloc`
@@ -44,7 +46,8 @@ module _ (s : List ℕ) (at : ℕ) (spots : List Spot) (st : Standing s spots) w
   abbrev iloc-seat : seat spots 3 ≡ spotOf (whereOf iloc 0 (kids s))
   iloc-seat = ap (λ (y : List Spot). seat y 3) (st .spots-are)
 
-  pub iloc-within : at + length s ≤ 65536 → (seat spots 3 .body ≤ seat spots 3 .end) × (seat spots 3 .end ≤ length s) × (at + seat spots 3 .start ≤ 65536) × (at + seat spots 3 .body ≤ 65536)
+  pub iloc-within : at + length s ≤ 65536 → (seat spots 3 .body ≤ seat spots 3 .end) × (seat spots 3 .end ≤ length s) ×
+      (at + seat spots 3 .start ≤ 65536) × (at + seat spots 3 .body ≤ 65536)
   iloc-within = child-within s at spots st 3 iloc iloc-seat (st .five .has-iloc)
 
   module _ (n : ℕ) (is : List Item) (x t : List ℕ) (b : Before s at n (withItems is) x t) where
@@ -64,10 +67,14 @@ module _ (s : List ℕ) (at : ℕ) (spots : List Spot) (st : Standing s spots) w
       same-ids : read ≡ whole (iloc-form (idsOf is)) (at + seat spots 3 .start) part
       same-ids = ap (λ (ids : List ℕ). whole (iloc-form ids) (at + seat spots 3 .start) part) (ids-are s at n (withItems is) x t b)
 
-      pub iloc-gone : (total primary : ℕ) (r : Refusal) → toldLocations read ≡ located.Refused r → (u : List ℕ) → After s at total (fromLocations at (kids s) primary is) (Refused r) x u
+      pub iloc-gone : (total primary : ℕ) (r : Refusal) → toldLocations read ≡ located.Refused r → (u : List ℕ) →
+          After s at total (fromLocations at (kids s) primary is) (Refused r) x u
       iloc-gone total primary r e u = after-refused s at total _ r x u (locations-gone at (kids s) primary is r (sym same ∙ locations-refused _ r e))
 
-      pub iloc-on : (k : ℕ) → toldLocations read ≡ located.Done k → (d : ℕ) → d ≡ placesAt at (kids s) .idat → (u : List ℕ) → LocationsLeft part (at + seat spots 3 .start) n d t u → (primary : ℕ) → (ls : List Location) × Before s at n (withLocations (withItems is) ls) x u × (extentsIn ls ≡ k) × (fromLocations at (kids s) primary is ≡ fromShown at (kids s) primary is ls)
+      pub iloc-on : (k : ℕ) → toldLocations read ≡ located.Done k → (d : ℕ) → d ≡ placesAt at (kids s) .idat →
+          (u : List ℕ) → LocationsLeft part (at + seat spots 3 .start) n d t u → (primary : ℕ) → (ls : List Location) ×
+          Before s at n (withLocations (withItems is) ls) x u × (extentsIn ls ≡ k) ×
+          (fromLocations at (kids s) primary is ≡ fromShown at (kids s) primary is ls)
       iloc-on k e d de u left primary =
           let o = locations-ok _ k e in
           let m : meant ≡ ok (o .0) = sym same ∙ o .1 in
@@ -79,10 +86,13 @@ module _ (s : List ℕ) (at : ℕ) (spots : List Spot) (st : Standing s spots) w
   abbrev iprp-seat : seat spots 4 ≡ spotOf (whereOf iprp 0 (kids s))
   iprp-seat = ap (λ (y : List Spot). seat y 4) (st .spots-are)
 
-  pub iprp-within : at + length s ≤ 65536 → (seat spots 4 .body ≤ seat spots 4 .end) × (seat spots 4 .end ≤ length s) × (at + seat spots 4 .start ≤ 65536) × (at + seat spots 4 .body ≤ 65536)
+  pub iprp-within : at + length s ≤ 65536 → (seat spots 4 .body ≤ seat spots 4 .end) × (seat spots 4 .end ≤ length s) ×
+      (at + seat spots 4 .start ≤ 65536) × (at + seat spots 4 .body ≤ 65536)
   iprp-within = child-within s at spots st 4 iprp iprp-seat (st .five .has-iprp)
 
-  module _ (n : ℕ) (is : List Item) (ls : List Location) (x t : List ℕ) (b : Before s at n (withLocations (withItems is) ls) x t) (part : List ℕ) (pe : part ≡ take (seat spots 4 .end - seat spots 4 .body) (drop (seat spots 4 .body) s)) where
+  module _ (n : ℕ) (is : List Item) (ls : List Location) (x t : List ℕ)
+      (b : Before s at n (withLocations (withItems is) ls) x t) (part : List ℕ)
+      (pe : part ≡ take (seat spots 4 .end - seat spots 4 .body) (drop (seat spots 4 .body) s)) where
     abbrev shown-meant : Answer Shown
     shown-meant = shown (idsOf is) (placeOf iprp at (kids s)) (beginOf at (kids s) iprp) (contentOf at (kids s) iprp)
 
@@ -105,12 +115,19 @@ module _ (s : List ℕ) (at : ℕ) (spots : List Spot) (st : Standing s spots) w
     unfolding placesAt
     first-place = let i = child in rw (i .begin, pe, i .part) refl
 
-    pub iprp-gone : (total primary : ℕ) (r : Refusal) → toldShown shown-read ≡ showing.Refused r → (u : List ℕ) → After s at total (fromShown at (kids s) primary is ls) (Refused r) x u
+    pub iprp-gone : (total primary : ℕ) (r : Refusal) → toldShown shown-read ≡ showing.Refused r → (u : List ℕ) →
+        After s at total (fromShown at (kids s) primary is ls) (Refused r) x u
     iprp-gone total primary r e u = after-refused s at total _ r x u (shown-gone at (kids s) primary is ls r (sym shown-same ∙ shown-refused _ r e))
 
-    pub iprp-on : (p k : ℕ) → toldShown shown-read ≡ showing.Shown p k → (u : List ℕ) → ShownLeft part (at + seat spots 4 .start) (at + seat spots 4 .body) n t u → (extents : ℕ) → extentsIn ls ≡ extents → (primary : ℕ) → (v : Shown) × LastBefore s at (record { items = n; properties = p; associations = k; targets = 0; extents = extents }) (withNames (withProperties (withLocations (withItems is) ls) (v .properties)) (v .associations)) x u × (fromShown at (kids s) primary is ls ≡ fromReferences at (kids s) primary is ls v)
+    pub iprp-on : (p k : ℕ) → toldShown shown-read ≡ showing.Shown p k → (u : List ℕ) →
+        ShownLeft part (at + seat spots 4 .start) (at + seat spots 4 .body) n t u → (extents : ℕ) →
+        extentsIn ls ≡ extents → (primary : ℕ) → (v : Shown) ×
+        LastBefore s at (record { items = n; properties = p; associations = k; targets = 0; extents = extents })
+        (withNames (withProperties (withLocations (withItems is) ls) (v .properties)) (v .associations)) x u ×
+        (fromShown at (kids s) primary is ls ≡ fromReferences at (kids s) primary is ls v)
     iprp-on p k e u left extents he primary =
         let o = shown-ok _ p k e in
         let m : shown-meant ≡ ok (o .0) = sym shown-same ∙ o .1 in
-        let w = left .told (placesAt at (kids s)) (withLocations (withItems is) ls) x (o .0) first-place (b .ready) refl refl (sym shown-same-ids ∙ o .1) (b .is) in
+        let w = left .told (placesAt at (kids s)) (withLocations (withItems is) ls) x (o .0) first-place (b .ready) refl
+        refl (sym shown-same-ids ∙ o .1) (b .is) in
         (o .0, last-begins s at n is ls x t u (o .0) p k extents b m w (o .2) (o .3) he, shown-on at (kids s) primary is ls (o .0) m)

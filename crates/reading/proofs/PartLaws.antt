@@ -61,10 +61,12 @@ module _ (p at : ℕ) (s : List ℕ) where
         go [] = refl
         go (b ∷ l) = h b
 
-    pub contents-missing : (k : ℕ) → (k ≡ hdlr) ⊎ ((k ≡ pitm) ⊎ ((k ≡ iloc) ⊎ ((k ≡ iinf) ⊎ (k ≡ iprp)))) → filled (ofKind k bs) ≡ false → contentsOf p at s ≡ refuse 7 p
+    pub contents-missing : (k : ℕ) → (k ≡ hdlr) ⊎ ((k ≡ pitm) ⊎ ((k ≡ iloc) ⊎ ((k ≡ iinf) ⊎ (k ≡ iprp)))) →
+        filled (ofKind k bs) ≡ false → contentsOf p at s ≡ refuse 7 p
     unfolding contentsOf
     contents-missing k (inl q) h = ok-bind _ _ bs e ∙ none hdlr _ (rw (← q) h)
     contents-missing k (inr (inl q)) h = ok-bind _ _ bs e ∙ step hdlr _ (λ b. none pitm _ (rw (← q) h))
     contents-missing k (inr (inr (inl q))) h = ok-bind _ _ bs e ∙ step hdlr _ (λ b. step pitm _ (λ c. none iloc _ (rw (← q) h)))
     contents-missing k (inr (inr (inr (inl q)))) h = ok-bind _ _ bs e ∙ step hdlr _ (λ b. step pitm _ (λ c. step iloc _ (λ d. none iinf _ (rw (← q) h))))
-    contents-missing k (inr (inr (inr (inr q)))) h = ok-bind _ _ bs e ∙ step hdlr _ (λ b. step pitm _ (λ c. step iloc _ (λ d. step iinf _ (λ r. none iprp _ (rw (← q) h)))))
+    contents-missing k (inr (inr (inr (inr q)))) h = ok-bind _ _ bs e ∙
+        step hdlr _ (λ b. step pitm _ (λ c. step iloc _ (λ d. step iinf _ (λ r. none iprp _ (rw (← q) h)))))

@@ -24,7 +24,8 @@ apart m n (inl h) k l q = absurd (omega arith)
 apart m n (inr h) k l q = absurd (omega arith)
 
 -- u is the table t with its first words set
-module _ (t u v : List ℕ) (a b c d e f g h : ℕ) (w : u ≡ set (set (set (set (set (set (set (set t 0 a) 1 b) 2 c) 3 d) 4 e) 5 f) 6 g) 7 h) (l : 11280 ≤ length t) where
+module _ (t u v : List ℕ) (a b c d e f g h : ℕ) (w : u ≡ set
+    (set (set (set (set (set (set (set t 0 a) 1 b) 2 c) 3 d) 4 e) 5 f) 6 g) 7 h) (l : 11280 ≤ length t) where
   abbrev two : List ℕ
   two = set (set t 0 a) 1 b
 

@@ -59,7 +59,8 @@ where-found k at (b ∷ bs) h = go (eqb (kindOf b) k) refl (λ q. where-found k 
         record {
           start = r .start;
           is = where-no k at b bs e ∙ r .is ∙ rw f;
-          place = λ base. ap (λ (c : Bool). pick c (base + at) (placeOf k (base + at + length b) bs)) e ∙ (let i : base + at + length b ≡ base + (at + length b) = omega arith in rw i (r .place base));
+          place = λ base. ap (λ (c : Bool). pick c (base + at) (placeOf k (base + at + length b) bs)) e ∙
+              (let i : base + at + length b ≡ base + (at + length b) = omega arith in rw i (r .place base));
         }
 
 where-missing : (k at : ℕ) (bs : List (List ℕ)) → filled (ofKind k bs) ≡ false → whereOf k at bs ≡ nowhere
@@ -68,7 +69,8 @@ where-missing k at [] h = refl
 where-missing k at (b ∷ bs) h = go (eqb (kindOf b) k) refl (λ q. where-missing k (at + length b) bs q)
   where
     go : (c : Bool) → eqb (kindOf b) k ≡ c → (filled (ofKind k bs) ≡ false → whereOf k (at + length b) bs ≡ nowhere) → whereOf k at (b ∷ bs) ≡ nowhere
-    go true e rec = let z : _≡_ {A = Bool} true false = ap filled (sym (of-yes k b bs (eqb-true _ _ e))) ∙ h in let w : _≡_ {A = ℕ} 0 1 = cc in absurd (omega arith)
+    go true e rec = let z : _≡_ {A = Bool} true false = ap filled (sym (of-yes k b bs (eqb-true _ _ e))) ∙ h in
+        let w : _≡_ {A = ℕ} 0 1 = cc in absurd (omega arith)
     go false e rec = where-no k at b bs e ∙ rec (ap filled (sym (of-no k b bs e)) ∙ h)
 
 -- what a spot says of the child of a type, the content s being the boxes bs and beginning at `at`
@@ -88,8 +90,15 @@ module _ (s : List ℕ) (bs : List (List ℕ)) (all : All IsBox bs) (joined : fl
       let x = where-found k 0 bs h in
       let o = has-first k bs h in
       let w = where-first k [] bs [] (firstOf k bs) (o .0) _ _ _ all (o .1) (x .is) in
-      let v : Stands s (firstOf k bs) (x .start) (x .start + headOf (firstOf k bs)) (x .start + length (firstOf k bs)) = subst (λ (r : List ℕ). Stands r (firstOf k bs) (x .start) (x .start + headOf (firstOf k bs)) (x .start + length (firstOf k bs))) (append-nil (flat bs) ∙ joined) w in
-      let e : spotOf (whereOf k 0 bs) ≡ record { start = x .start; body = x .start + headOf (firstOf k bs); end = x .start + length (firstOf k bs) } = ap spotOf (x .is) in
+      let v : Stands s (firstOf k bs) (x .start) (x .start + headOf (firstOf k bs)) (x .start + length (firstOf k bs)) =
+      subst (λ (r : List ℕ). Stands r (firstOf k bs) (x .start) (x .start + headOf (firstOf k bs))
+      (x .start + length (firstOf k bs))) (append-nil (flat bs) ∙ joined) w in
+      let e : spotOf (whereOf k 0 bs) ≡ record {
+        start = x .start;
+        body = x .start + headOf (firstOf k bs);
+        end =
+            x .start + length (firstOf k bs);
+      } = ap spotOf (x .is) in
       let z : at + 0 ≡ at = omega arith in
       let p : placeOf k at bs ≡ at + x .start = ap (λ (i : ℕ). placeOf k i bs) (sym z) ∙ x .place at in
       rw e (record {

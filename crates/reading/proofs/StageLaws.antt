@@ -44,11 +44,13 @@ pub ids-are : (s : List ℕ) (at n : ℕ) (f : File) (x t : List ℕ) → Before
 ids-are s at n f x t b =
     let c = b .ready .count in
     let l : length (idsOf (f .items)) ≡ length (f .items) = simp length-map in
-    ids-take t (idsOf (f .items)) n (omega arith) (λ k q. ap (λ (u : List ℕ). idAt u k) (b .is) ∙ raw-id [] (placesAt at (kids s)) x (omega arith) f k (omega arith))
+    ids-take t (idsOf (f .items)) n (omega arith) (λ k q. ap (λ (u : List ℕ). idAt u k) (b .is) ∙
+    raw-id [] (placesAt at (kids s)) x (omega arith) f k (omega arith))
     ∙ take-all n (idsOf (f .items)) (omega arith)
 
 -- After: a refusal
-pub after-refused : (s : List ℕ) (at total : ℕ) (m : Answer File) (r : Refusal) (x u : List ℕ) → m ≡ refuse (r .number) (r .place) → After s at total m (Refused r) x u
+pub after-refused : (s : List ℕ) (at total : ℕ) (m : Answer File) (r : Refusal) (x u : List ℕ) →
+    m ≡ refuse (r .number) (r .place) → After s at total m (Refused r) x u
 unfolding toldFile
 after-refused s at total m r x u e =
     record {
@@ -61,33 +63,52 @@ pub after-same : (s : List ℕ) (at total : ℕ) (m k : Answer File) (r : FileRe
 after-same s at total m k r x u e a = subst (λ (y : Answer File). After s at total y r x u) (sym e) a
 
 -- After: all is read, and the first words are stored
-module _ (s : List ℕ) (at total primary : ℕ) (c : Counts) (f : File) (x t v u : List ℕ) (l : LastBefore s at c f x t) (ds : List Derivation) (n : ℕ) (count : targetsIn ds ≡ n) where
+module _ (s : List ℕ) (at total primary : ℕ) (c : Counts) (f : File) (x t v u : List ℕ) (l : LastBefore s at c f x t)
+    (ds : List Derivation) (n : ℕ) (count : targetsIn ds ≡ n) where
   abbrev whole-file : File
   whole-file = fileBy at (kids s) primary (f .items) (f .locations) (shownOf f) ds
 
-  words-are : c .items ∷ c .properties ∷ c .associations ∷ n ∷ c .extents ∷ primary ∷ (total / 4294967296) ∷ (total % 4294967296) ∷ [] ≡ headWords total whole-file
-  words-are = rw (← l .before .ready .count, l .properties, l .associations, ← count, l .extents, named-total (f .associations), derived-total ds, located-total (f .locations)) refl
+  words-are : c .items ∷ c .properties ∷ c .associations ∷ n ∷ c .extents ∷ primary ∷ (total / 4294967296) ∷
+      (total % 4294967296) ∷ [] ≡ headWords total whole-file
+  words-are = rw (
+    ← l .before .ready .count,
+    l .properties,
+    l .associations,
+    ← count,
+    l .extents,
+    named-total (f .associations),
+    derived-total ds,
+    located-total (f .locations),
+  ) refl
 
   same-lists : (hw : List ℕ) → rawOf hw (placesAt at (kids s)) (withDerivations f ds) ≡ rawOf hw (placesAt at (kids s)) whole-file
   unfolding rawOf
   same-lists hw = refl
 
   abbrev stored : List ℕ → List ℕ
-  stored y = set (set (set (set (set (set (set (set y 0 (c .items)) 1 (c .properties)) 2 (c .associations)) 3 n) 4 (c .extents)) 5 primary) 6 (total / 4294967296)) 7 (total % 4294967296)
+  stored y = set (set (set (set (set (set (set (set y 0 (c .items)) 1 (c .properties)) 2 (c .associations)) 3 n) 4
+      (c .extents)) 5 primary) 6 (total / 4294967296)) 7 (total % 4294967296)
 
-  table-is : v ≡ rawOf [] (placesAt at (kids s)) (withDerivations f ds) ++ x → u ≡ stored v → u ≡ rawOf (headWords total whole-file) (placesAt at (kids s)) whole-file ++ x
+  table-is : v ≡ rawOf [] (placesAt at (kids s)) (withDerivations f ds) ++ x → u ≡ stored v →
+      u ≡ rawOf (headWords total whole-file) (placesAt at (kids s)) whole-file ++ x
   table-is i w =
       w
       ∙ ap stored i
-      ∙ raw-head (placesAt at (kids s)) (withDerivations f ds) x (c .items) (c .properties) (c .associations) n (c .extents) primary (total / 4294967296) (total % 4294967296)
-      ∙ ap (λ (y : List ℕ). y ++ x) (ap (λ (hw : List ℕ). rawOf hw (placesAt at (kids s)) (withDerivations f ds)) words-are ∙ same-lists (headWords total whole-file))
+      ∙ raw-head (placesAt at (kids s)) (withDerivations f ds) x (c .items) (c .properties) (c .associations) n
+      (c .extents) primary (total / 4294967296) (total % 4294967296)
+      ∙ ap (λ (y : List ℕ). y ++ x) (ap (λ (hw : List ℕ). rawOf hw (placesAt at (kids s)) (withDerivations f ds))
+      words-are ∙ same-lists (headWords total whole-file))
 
-  pub after-read : fromReferences at (kids s) primary (f .items) (f .locations) (shownOf f) ≡ ok whole-file → v ≡ rawOf [] (placesAt at (kids s)) (withDerivations f ds) ++ x → u ≡ stored v → (r : FileRead) → r ≡ toldSpot at s → After s at total (fromReferences at (kids s) primary (f .items) (f .locations) (shownOf f)) r x u
+  pub after-read : fromReferences at (kids s) primary (f .items) (f .locations) (shownOf f) ≡ ok whole-file →
+      v ≡ rawOf [] (placesAt at (kids s)) (withDerivations f ds) ++ x → u ≡ stored v → (r : FileRead) →
+      r ≡ toldSpot at s → After s at total (fromReferences at (kids s) primary (f .items) (f .locations) (shownOf f)) r
+      x u
   unfolding toldFile toldSpot
   after-read e i w r a =
       record {
         answer = a ∙ sym (ap (toldFile (placesAt at (kids s) .idat)) e);
-        left = λ g q. let h : whole-file ≡ g = ok-inj _ _ (sym e ∙ q) in subst (λ (y : File). u ≡ rawOf (headWords total y) (placesAt at (kids s)) y ++ x) h (table-is i w);
+        left = λ g q. let h : whole-file ≡ g = ok-inj _ _ (sym e ∙ q) in
+            subst (λ (y : File). u ≡ rawOf (headWords total y) (placesAt at (kids s)) y ++ x) h (table-is i w);
       }
 
 -- fromReferences
@@ -96,12 +117,20 @@ module _ (s : List ℕ) (at : ℕ) (spots : List Spot) (st : Standing s spots) (
   unfolding fromReferences referred _>>=_
   references-none h = let n : ofKind iref (kids s) ≡ [] = nil-filled _ h in rw n
 
-  referred-is : Has iref (kids s) → fromReferences at (kids s) primary is ls sh ≡ (references (idsOf is) (placeOf iref at (kids s)) (placeOf iref at (kids s) + headOf (firstOf iref (kids s))) (bodyOf (firstOf iref (kids s))) >>= (λ ds. ok (fileBy at (kids s) primary is ls sh ds)))
+  referred-is : Has iref (kids s) → fromReferences at (kids s) primary is ls sh ≡
+      (references (idsOf is) (placeOf iref at (kids s)) (placeOf iref at (kids s) + headOf (firstOf iref (kids s)))
+      (bodyOf (firstOf iref (kids s))) >>= (λ ds. ok (fileBy at (kids s) primary is ls sh ds)))
   unfolding fromReferences referred
   referred-is h = let o = has-first iref (kids s) h in rw (o .1)
 
-  pub references-read : Has iref (kids s) → (ds : List Derivation) → references (idsOf is) (placeOf iref at (kids s)) (placeOf iref at (kids s) + headOf (firstOf iref (kids s))) (bodyOf (firstOf iref (kids s))) ≡ ok ds → fromReferences at (kids s) primary is ls sh ≡ ok (fileBy at (kids s) primary is ls sh ds)
+  pub references-read : Has iref (kids s) → (ds : List Derivation) →
+      references (idsOf is) (placeOf iref at (kids s)) (placeOf iref at (kids s) + headOf (firstOf iref (kids s)))
+      (bodyOf (firstOf iref (kids s))) ≡ ok ds → fromReferences at (kids s) primary is ls sh ≡ ok
+      (fileBy at (kids s) primary is ls sh ds)
   references-read h ds e = referred-is h ∙ ok-bind _ _ ds e
 
-  pub references-gone : Has iref (kids s) → (r : Refusal) → references (idsOf is) (placeOf iref at (kids s)) (placeOf iref at (kids s) + headOf (firstOf iref (kids s))) (bodyOf (firstOf iref (kids s))) ≡ refuse (r .number) (r .place) → fromReferences at (kids s) primary is ls sh ≡ refuse (r .number) (r .place)
+  pub references-gone : Has iref (kids s) → (r : Refusal) →
+      references (idsOf is) (placeOf iref at (kids s)) (placeOf iref at (kids s) + headOf (firstOf iref (kids s)))
+      (bodyOf (firstOf iref (kids s))) ≡ refuse (r .number) (r .place) →
+      fromReferences at (kids s) primary is ls sh ≡ refuse (r .number) (r .place)
   references-gone h r e = referred-is h ∙ refuse-bind _ _ r e

@@ -14,6 +14,8 @@ unfolding rawOf region recordsBy joinAll propertiesFrom associationRows targetRo
 raw-unread pl = refl
 
 -- the first words stored into a table that has none yet
-pub raw-head : (pl : Places) (f : File) (x : List ℕ) (a b c d e g h i : ℕ) → set (set (set (set (set (set (set (set (rawOf [] pl f ++ x) 0 a) 1 b) 2 c) 3 d) 4 e) 5 g) 6 h) 7 i ≡ rawOf (a ∷ b ∷ c ∷ d ∷ e ∷ g ∷ h ∷ i ∷ []) pl f ++ x
+pub raw-head : (pl : Places) (f : File) (x : List ℕ) (a b c d e g h i : ℕ) →
+    set (set (set (set (set (set (set (set (rawOf [] pl f ++ x) 0 a) 1 b) 2 c) 3 d) 4 e) 5 g) 6 h) 7 i ≡ rawOf
+    (a ∷ b ∷ c ∷ d ∷ e ∷ g ∷ h ∷ i ∷ []) pl f ++ x
 unfolding rawOf region
 raw-head pl f x a b c d e g h i = refl

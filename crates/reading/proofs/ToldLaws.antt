@@ -34,7 +34,9 @@ pub refuse-bind : {A B : Type 0} (m : Answer A) (f : A → Answer B) (r : Refusa
 unfolding _>>=_
 refuse-bind m f r e = rw e
 
-module _ {A E : Type 0} (told : Answer A → E) (Bad : Refusal → E) (same : (n p : ℕ) → told (refuse n p) ≡ Bad (record { number = n; place = p })) (inj : (r q : Refusal) → Bad r ≡ Bad q → r ≡ q) (apart : (a : A) (r : Refusal) → told (ok a) ≡ Bad r → ⊥) where
+module _ {A E : Type 0} (told : Answer A → E) (Bad : Refusal → E)
+    (same : (n p : ℕ) → told (refuse n p) ≡ Bad (record { number = n; place = p }))
+    (inj : (r q : Refusal) → Bad r ≡ Bad q → r ≡ q) (apart : (a : A) (r : Refusal) → told (ok a) ≡ Bad r → ⊥) where
   pub told-refused : (m : Answer A) (r : Refusal) → told m ≡ Bad r → m ≡ refuse (r .number) (r .place)
   told-refused (ok a) r e = absurd (apart a r e)
   told-refused (refuse n p) r e =
@@ -86,7 +88,8 @@ items-ok (refuse n p) k e = let z : _≡_ {A = ℕ} 0 1 = cc in absurd (omega ar
 -- toldLocations
 pub locations-refused : (m : Answer (List Location)) (r : Refusal) → toldLocations m ≡ locations.Refused r → m ≡ refuse (r .number) (r .place)
 unfolding toldLocations
-locations-refused m r e = told-refused toldLocations locations.Refused (λ n p. refl) (λ r q e. cc) (λ a r e. let z : _≡_ {A = ℕ} 0 1 = cc in absurd (omega arith)) m r e
+locations-refused m r e = told-refused toldLocations locations.Refused (λ n p. refl) (λ r q e. cc)
+    (λ a r e. let z : _≡_ {A = ℕ} 0 1 = cc in absurd (omega arith)) m r e
 
 pub locations-ok : (m : Answer (List Location)) (k : ℕ) → toldLocations m ≡ locations.Done k → (a : (List Location)) × (m ≡ ok a) × (extentsIn a ≡ k)
 unfolding toldLocations
@@ -98,7 +101,8 @@ pub shown-refused : (m : Answer Shown) (r : Refusal) → toldShown m ≡ shown.R
 unfolding toldShown
 shown-refused m r e = told-refused toldShown shown.Refused (λ n p. refl) (λ r q e. cc) (λ a r e. let z : _≡_ {A = ℕ} 0 1 = cc in absurd (omega arith)) m r e
 
-pub shown-ok : (m : Answer Shown) (k l : ℕ) → toldShown m ≡ shown.Shown k l → (a : Shown) × (m ≡ ok a) × (length (a .properties) ≡ k) × (associationsIn (a .associations) ≡ l)
+pub shown-ok : (m : Answer Shown) (k l : ℕ) → toldShown m ≡ shown.Shown k l → (a : Shown) × (m ≡ ok a) ×
+    (length (a .properties) ≡ k) × (associationsIn (a .associations) ≡ l)
 unfolding toldShown
 shown-ok (ok a) k l e = (a, refl, (let q : length (a .properties) ≡ k = cc in q), (let q : associationsIn (a .associations) ≡ l = cc in q))
 shown-ok (refuse n p) k l e = let z : _≡_ {A = ℕ} 0 1 = cc in absurd (omega arith)
@@ -114,7 +118,14 @@ pub meta-refused : (m : Answer Spot) (r : Refusal) → toldMeta m ≡ meta.Refus
 unfolding toldMeta
 meta-refused m r e = told-refused toldMeta meta.Refused (λ n p. refl) (λ r q e. cc) (λ a r e. let z : _≡_ {A = ℕ} 0 1 = cc in absurd (omega arith)) m r e
 
-pub meta-ok : (m : Answer Spot) (s b e : ℕ) → toldMeta m ≡ meta.At s b e → (a : Spot) × (m ≡ ok a) × (a .place ≡ s) × (a .place + headOf (a .box) ≡ b) × (a .place + length (a .box) ≡ e)
+pub meta-ok : (m : Answer Spot) (s b e : ℕ) → toldMeta m ≡ meta.At s b e → (a : Spot) × (m ≡ ok a) × (a .place ≡ s) ×
+    (a .place + headOf (a .box) ≡ b) × (a .place + length (a .box) ≡ e)
 unfolding toldMeta
-meta-ok (ok a) s b e h = (a, refl, (let q : a .place ≡ s = cc in q), (let q : a .place + headOf (a .box) ≡ b = cc in q), (let q : a .place + length (a .box) ≡ e = cc in q))
+meta-ok (ok a) s b e h = (
+  a,
+  refl,
+  (let q : a .place ≡ s = cc in q),
+  (let q : a .place + headOf (a .box) ≡ b = cc in q),
+  (let q : a .place + length (a .box) ≡ e = cc in q),
+)
 meta-ok (refuse n p) s b e h = let z : _≡_ {A = ℕ} 0 1 = cc in absurd (omega arith)

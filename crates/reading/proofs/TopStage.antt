@@ -48,16 +48,58 @@ use Rattle.records.specs.Stage.{Kept, Ready, withItems}
 use Rattle.items.specs.Told.{toldItems, ItemsLeft}
 use Rattle.items.specs.declared.ItemsRead.the-variants as items-read
 use Rattle.items.proofs.ReadyLaws.{items-ready}
-use Rattle.reading.specs.Parts.{kids, spotsIn, Missing, Has, Standing, Before, After, contentOf, beginOf, fromHandler, fromItems, fromLocations, ReadLeft, toldFile, readAnswer, readWords, leftBy}
+use Rattle.reading.specs.Parts.{
+  kids,
+  spotsIn,
+  Missing,
+  Has,
+  Standing,
+  Before,
+  After,
+  contentOf,
+  beginOf,
+  fromHandler,
+  fromItems,
+  fromLocations,
+  ReadLeft,
+  toldFile,
+  readAnswer,
+  readWords,
+  leftBy,
+}
 use Rattle.reading.specs.declared.FileRead.{FileRead}
 use Rattle.reading.specs.declared.FileRead.the-variants.{Is, Refused}
 use Rattle.reading.proofs.SpotLaws.{SpotIs, spot-is, boxes-all, boxes-joined}
 use Rattle.reading.proofs.TableLaws.{raw-unread}
-use Rattle.reading.proofs.ToldLaws.{items-ok, items-refused, hdlr-ok, hdlr-refused, pitm-ok, pitm-refused, walk-ok, walk-refused, meta-ok, meta-refused, told-refused}
+use Rattle.reading.proofs.ToldLaws.{
+  items-ok,
+  items-refused,
+  hdlr-ok,
+  hdlr-refused,
+  pitm-ok,
+  pitm-refused,
+  walk-ok,
+  walk-refused,
+  meta-ok,
+  meta-refused,
+  told-refused,
+}
 use Rattle.reading.proofs.StageLaws.{after-refused}
 use Rattle.reading.proofs.ChainLaws.{items-gone, items-on, handler-gone, primary-gone, primary-on}
 use Rattle.reading.proofs.PartLaws.{contents-refused, contents-missing}
-use Rattle.reading.proofs.MetaLaws.{standing, spots-in, contents-kids, kids-all, file-gone, file-here, read-long, read-short, read-gone, read-meta, places-are}
+use Rattle.reading.proofs.MetaLaws.{
+  standing,
+  spots-in,
+  contents-kids,
+  kids-all,
+  file-gone,
+  file-here,
+  read-long,
+  read-short,
+  read-gone,
+  read-meta,
+  places-are,
+}
 
 -- the spots of the children
 abbrev pub spotAt : List Spot → ℕ → Spot
@@ -81,7 +123,8 @@ module _ (s : List ℕ) (at : ℕ) (spots : List Spot) (st : Standing s spots) w
   iinf-spot = spot-here 2 iinf (ap (λ (l : List Spot). spotAt l 2) (st .spots-are)) (st .five .has-iinf)
 
 -- a child stands within the content
-pub spot-room : (s : List ℕ) (at k : ℕ) (bs : List (List ℕ)) (p : Spot) → SpotIs s at k bs p → at + length s ≤ 65536 → (at + p .body ≤ 65536) × (at + p .start ≤ at + p .body) × (at + p .body + length (partAt s p) ≤ 65536)
+pub spot-room : (s : List ℕ) (at k : ℕ) (bs : List (List ℕ)) (p : Spot) → SpotIs s at k bs p → at + length s ≤ 65536 →
+    (at + p .body ≤ 65536) × (at + p .start ≤ at + p .body) × (at + p .body + length (partAt s p) ≤ 65536)
 spot-room s at k bs p h l =
     let o = h .order in let u = h .upto in let a = h .place in let b = h .begin in
     let e : length (partAt s p) ≡ p .end - p .body = simp (length-take, length-drop) (omega arith) in
@@ -92,7 +135,8 @@ module _ (s : List ℕ) (at : ℕ) (p : Spot) (i : SpotIs s at iinf (kids s) p) 
   items-same : items (at + p .start) (at + p .body) (partAt s p) ≡ items (placeOf iinf at (kids s)) (beginOf at (kids s) iinf) (contentOf at (kids s) iinf)
   items-same = rw (i .place, i .begin, i .part) refl
 
-  pub iinf-refused : (r : Refusal) (x u : List ℕ) → toldItems (items (at + p .start) (at + p .body) (partAt s p)) ≡ items-read.Refused r → After s at total (fromItems at (kids s) primary) (Refused r) x u
+  pub iinf-refused : (r : Refusal) (x u : List ℕ) → toldItems (items (at + p .start) (at + p .body) (partAt s p)) ≡
+      items-read.Refused r → After s at total (fromItems at (kids s) primary) (Refused r) x u
   iinf-refused r x u e = after-refused s at total _ r x u (items-gone at (kids s) primary r (sym items-same ∙ items-refused _ r e))
 
   -- the stage of `iloc` begins
@@ -101,7 +145,9 @@ module _ (s : List ℕ) (at : ℕ) (p : Spot) (i : SpotIs s at iinf (kids s) p) 
     pub before : Before s at n (withItems list) x u
     pub on : fromItems at (kids s) primary ≡ fromLocations at (kids s) primary list
 
-  pub iinf-begins : (n : ℕ) (x t u : List ℕ) → toldItems (items (at + p .start) (at + p .body) (partAt s p)) ≡ items-read.Items n → t ≡ replicate 11280 0 ++ x → ItemsLeft (partAt s p) (at + p .start) (at + p .body) t u → Begun n x u
+  pub iinf-begins : (n : ℕ) (x t u : List ℕ) →
+      toldItems (items (at + p .start) (at + p .body) (partAt s p)) ≡ items-read.Items n → t ≡ replicate 11280 0 ++ x →
+      ItemsLeft (partAt s p) (at + p .start) (at + p .body) t u → Begun n x u
   iinf-begins n x t u e w l =
       let o = items-ok _ n e in
       let q = o .1 in
@@ -115,7 +161,10 @@ module _ (s : List ℕ) (at : ℕ) (p : Spot) (i : SpotIs s at iinf (kids s) p) 
         on = items-on at (kids s) primary (o .0) (sym items-same ∙ q);
       }
 
-  pub iinf-after : (n : ℕ) (x u v : List ℕ) (r : FileRead) → Begun n x u → ((is : List Item) (x : List ℕ) → Before s at n (withItems is) x u → After s at total (fromLocations at (kids s) primary is) r x v) → After s at total (fromItems at (kids s) primary) r x v
+  pub iinf-after : (n : ℕ) (x u v : List ℕ) (r : FileRead) → Begun n x u →
+      ((is : List Item) (x : List ℕ) → Before s at n (withItems is) x u →
+      After s at total (fromLocations at (kids s) primary is) r x v) →
+      After s at total (fromItems at (kids s) primary) r x v
   iinf-after n x u v r b h = subst (λ (m : Answer File). After s at total m r x v) (sym (b .on)) (h (b .list) x (b .before))
 
 -- fromHandler
@@ -126,27 +175,36 @@ module _ (s : List ℕ) (at total : ℕ) (h p : Spot) (i : SpotIs s at hdlr (kid
   pitm-same : whole pitm-form (at + p .start) (partAt s p) ≡ whole pitm-form (placeOf pitm at (kids s)) (contentOf at (kids s) pitm)
   pitm-same = rw (j .place, j .part) refl
 
-  pub hdlr-refused-after : (r : Refusal) (x u : List ℕ) → toldHdlr (front hdlr-form (at + h .start) (partAt s h)) ≡ hdlr-read.Refused r → After s at total (fromHandler at (kids s)) (Refused r) x u
+  pub hdlr-refused-after : (r : Refusal) (x u : List ℕ) →
+      toldHdlr (front hdlr-form (at + h .start) (partAt s h)) ≡ hdlr-read.Refused r →
+      After s at total (fromHandler at (kids s)) (Refused r) x u
   hdlr-refused-after r x u e = after-refused s at total _ r x u (handler-gone at (kids s) r (sym hdlr-same ∙ hdlr-refused _ r e))
 
   module _ (e : toldHdlr (front hdlr-form (at + h .start) (partAt s h)) ≡ hdlr-read.Pict) where
     hdlr-is : front hdlr-form (placeOf hdlr at (kids s)) (contentOf at (kids s) hdlr) ≡ ok tt
     hdlr-is = sym hdlr-same ∙ hdlr-ok _ e .1
 
-    pub pitm-refused-after : (r : Refusal) (x u : List ℕ) → toldPitm (whole pitm-form (at + p .start) (partAt s p)) ≡ pitm-read.Refused r → After s at total (fromHandler at (kids s)) (Refused r) x u
+    pub pitm-refused-after : (r : Refusal) (x u : List ℕ) →
+        toldPitm (whole pitm-form (at + p .start) (partAt s p)) ≡ pitm-read.Refused r →
+        After s at total (fromHandler at (kids s)) (Refused r) x u
     pitm-refused-after r x u q = after-refused s at total _ r x u (primary-gone at (kids s) hdlr-is r (sym pitm-same ∙ pitm-refused _ r q))
 
-    pub pitm-after : (id : ItemId) (r : FileRead) (x u : List ℕ) → toldPitm (whole pitm-form (at + p .start) (partAt s p)) ≡ pitm-read.Primary id → After s at total (fromItems at (kids s) (id .0)) r x u → After s at total (fromHandler at (kids s)) r x u
+    pub pitm-after : (id : ItemId) (r : FileRead) (x u : List ℕ) →
+        toldPitm (whole pitm-form (at + p .start) (partAt s p)) ≡ pitm-read.Primary id →
+        After s at total (fromItems at (kids s) (id .0)) r x u → After s at total (fromHandler at (kids s)) r x u
     pitm-after id r x u q a =
         let o = pitm-ok _ (id .0) q in
         subst (λ (m : Answer File). After s at total m r x u) (sym (primary-on at (kids s) hdlr-is (id .0) (sym pitm-same ∙ o .1 ∙ ap ok (o .2)))) a
 
 -- contentsOf
 module _ (p at total : ℕ) (s : List ℕ) where
-  pub walk-refused-after : (r : Refusal) (x u : List ℕ) → toldWalk (children known p at s) ≡ walked.Refused r → After s at total (contentsOf p at s) (Refused r) x u
+  pub walk-refused-after : (r : Refusal) (x u : List ℕ) → toldWalk (children known p at s) ≡ walked.Refused r →
+      After s at total (contentsOf p at s) (Refused r) x u
   walk-refused-after r x u e = after-refused s at total _ r x u (contents-refused p at s _ _ (walk-refused _ r e))
 
-  module _ (spots : List Spot) (e : toldWalk (children known p at s) ≡ walked.Whole) (q : spots ≡ spotsOf (children known p at s)) (b : Bool) (m : (bs : List (List ℕ)) → All IsBox bs → spots ≡ spotsIn bs → Missing bs b) where
+  module _ (spots : List Spot) (e : toldWalk (children known p at s) ≡ walked.Whole)
+      (q : spots ≡ spotsOf (children known p at s)) (b : Bool)
+      (m : (bs : List (List ℕ)) → All IsBox bs → spots ≡ spotsIn bs → Missing bs b) where
     abbrev found : List (List ℕ)
     found = walk-ok _ e .0
 
@@ -157,13 +215,15 @@ module _ (p at total : ℕ) (s : List ℕ) where
     missing-is = m found (kids-all p at s found found-is) (spots-in p at s found found-is spots (q ∙ ap spotsOf found-is))
 
     pub missing-after : b ≡ true → (x u : List ℕ) → After s at total (contentsOf p at s) (Refused (record { number = 7; place = p })) x u
-    missing-after t x u = let w : Missing found true = subst (Missing found) t missing-is in after-refused s at total _ _ x u (contents-missing p at s found found-is (w .0) (w .1) (w .2))
+    missing-after t x u = let w : Missing found true = subst (Missing found) t missing-is in
+        after-refused s at total _ _ x u (contents-missing p at s found found-is (w .0) (w .1) (w .2))
 
     pub whole-standing : b ≡ false → Standing s spots
     whole-standing t = standing p at s found found-is spots (q ∙ ap spotsOf found-is) (subst (Missing found) t missing-is)
 
     pub whole-after : b ≡ false → (r : FileRead) (x u : List ℕ) → After s at total (fromHandler at (kids s)) r x u → After s at total (contentsOf p at s) r x u
-    whole-after t r x u a = subst (λ (m : Answer File). After s at total m r x u) (sym (contents-kids p at s found found-is (subst (Missing found) t missing-is))) a
+    whole-after t r x u a = subst (λ (m : Answer File). After s at total m r x u)
+        (sym (contents-kids p at s found found-is (subst (Missing found) t missing-is))) a
 
 -- what follows version and flags
 abbrev pub restOf : List ℕ → List ℕ
@@ -177,14 +237,17 @@ rest-room at s h l = let k = length-drop 4 s in let e = ap length (rest-is s) in
 
 -- fileOf
 module _ (p at total : ℕ) (s : List ℕ) where
-  pub full-refused-after : (r : Refusal) (x u : List ℕ) → toldFull (full (between 0 0) .read p s) ≡ full-read.Refused r → After (drop 4 s) (at + 4) total (fileOf p at s) (Refused r) x u
+  pub full-refused-after : (r : Refusal) (x u : List ℕ) →
+      toldFull (full (between 0 0) .read p s) ≡ full-read.Refused r →
+      After (drop 4 s) (at + 4) total (fileOf p at s) (Refused r) x u
   full-refused-after r x u e = after-refused (drop 4 s) (at + 4) total _ r x u (file-gone p at s r (full-gone _ p s _ _ e))
 
   module _ (v f : ℕ) (e : toldFull (full (between 0 0) .read p s) ≡ full-read.Is v f) where
     pub full-room : 4 ≤ length s
     full-room = full-here _ p s v f e .room
 
-    pub full-after : (r : FileRead) (x u : List ℕ) → After (restOf s) (at + 4) total (contentsOf p (at + 4) (restOf s)) r x u → After (drop 4 s) (at + 4) total (fileOf p at s) r x u
+    pub full-after : (r : FileRead) (x u : List ℕ) → After (restOf s) (at + 4) total (contentsOf p (at + 4) (restOf s))
+        r x u → After (drop 4 s) (at + 4) total (fileOf p at s) r x u
     full-after r x u a =
         subst (λ (m : Answer File). After (drop 4 s) (at + 4) total m r x u) (sym (file-here p at s v f (full-here _ p s v f e)))
         (subst (λ (y : List ℕ). After y (at + 4) total (contentsOf p (at + 4) y) r x u) (rest-is s) a)
@@ -249,7 +312,9 @@ module _ (total : ℕ) (head : List ℕ) (h : length head ≤ 65536) (k : length
     pub meta-room : MetaPart head (metaBox .box) b e
     meta-room =
         let o = meta-ok _ s b e q in
-        subst (MetaPart head (metaBox .box) b) (o .4) (subst (λ (z : ℕ). MetaPart head (metaBox .box) z (metaBox .place + length (metaBox .box))) (o .3) (meta-part total head (metaBox .box) (metaBox .place) (meta-sound total head metaBox k (o .1))))
+        subst (MetaPart head (metaBox .box) b) (o .4) (subst (λ (z : ℕ). MetaPart head (metaBox .box) z
+        (metaBox .place + length (metaBox .box))) (o .3) (meta-part total head (metaBox .box) (metaBox .place)
+        (meta-sound total head metaBox k (o .1))))
 
     pub meta-length : b + length (take (e - b) (drop b head)) ≤ 65536
     meta-length =
@@ -258,14 +323,19 @@ module _ (total : ℕ) (head : List ℕ) (h : length head ≤ 65536) (k : length
         let l : length (take (e - b) (drop b head)) ≡ e - b = simp (length-take, length-drop) (omega arith) in
         omega arith
 
-    pub meta-left : (r : FileRead) (x u : List ℕ) → After (drop 4 (take (e - b) (drop b head))) (b + 4) total (fileOf s b (take (e - b) (drop b head))) r x u → ReadLeft total head r x u
+    pub meta-left : (r : FileRead) (x u : List ℕ) → After (drop 4 (take (e - b) (drop b head))) (b + 4) total
+        (fileOf s b (take (e - b) (drop b head))) r x u → ReadLeft total head r x u
     meta-left r x u a =
         let o = meta-ok _ s b e q in
         let m = metaBox in
         let y = take (e - b) (drop b head) in
         let w = meta-room .part in
-        let pl : placesIn total head ≡ placesAt (b + 4) (kids (drop 4 y)) = places-are total head m (o .1) ∙ ap (λ (z : ℕ). placesAt (z + 4) (kids (drop 4 (bodyOf (m .box))))) (o .3) ∙ ap (λ (z : List ℕ). placesAt (b + 4) (kids (drop 4 z))) (sym w) in
-        let fl : readFile total head ≡ fileOf s b y = read-meta total head h k m (o .1) ∙ ap (λ (z : ℕ). fileOf z (m .place + headOf (m .box)) (bodyOf (m .box))) (o .2) ∙ ap (λ (z : ℕ). fileOf s z (bodyOf (m .box))) (o .3) ∙ ap (fileOf s b) (sym w) in
+        let pl : placesIn total head ≡ placesAt (b + 4) (kids (drop 4 y)) = places-are total head m (o .1) ∙
+        ap (λ (z : ℕ). placesAt (z + 4) (kids (drop 4 (bodyOf (m .box))))) (o .3) ∙
+        ap (λ (z : List ℕ). placesAt (b + 4) (kids (drop 4 z))) (sym w) in
+        let fl : readFile total head ≡ fileOf s b y = read-meta total head h k m (o .1) ∙
+        ap (λ (z : ℕ). fileOf z (m .place + headOf (m .box)) (bodyOf (m .box))) (o .2) ∙
+        ap (λ (z : ℕ). fileOf s z (bodyOf (m .box))) (o .3) ∙ ap (fileOf s b) (sym w) in
         record {
           answer = a .answer ∙ ap (λ (l : Places). toldFile (l .idat) (fileOf s b y)) (sym pl) ∙ ap (toldFile (placesIn total head .idat)) (sym fl);
           left = λ g z. a .left g (sym fl ∙ z) ∙ ap (λ (l : Places). rawOf (headWords total g) l g ++ x) (sym pl);
@@ -323,7 +393,8 @@ module _ (total : ℕ) (head t : List ℕ) where
     head-short u w h k = gone _ u (read-short total head h k) (w ∙ clear-is t l)
 
     -- t' the table cleared, u what reading left, v that cleared again
-    pub head-refused : (t' u v : List ℕ) (r : Refusal) (y : FileRead) → t' ≡ cleared t → Kept t' u → ReadLeft total head y (drop 11280 t) u → y ≡ Refused r → v ≡ cleared u → Promised (Refused r) v
+    pub head-refused : (t' u v : List ℕ) (r : Refusal) (y : FileRead) → t' ≡ cleared t → Kept t' u →
+        ReadLeft total head y (drop 11280 t) u → y ≡ Refused r → v ≡ cleared u → Promised (Refused r) v
     head-refused t' u v r y w k a q c =
         let n = ap length w in
         let m = clear-length t l in

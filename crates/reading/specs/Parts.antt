@@ -43,7 +43,15 @@ module _ (at : ℕ) (bs : List (List ℕ)) where
   beginOf k = placeOf k at bs + headOf (firstOf k bs)
 
   abbrev pub fileBy : ℕ → List Item → List Location → Shown → List Derivation → File
-  fileBy primary is ls v ds = record { primary = primary; items = is; locations = ls; properties = v .properties; associations = v .associations; derivations = ds; idat = dataOf (ofKind idat bs) }
+  fileBy primary is ls v ds = record {
+    primary = primary;
+    items = is;
+    locations = ls;
+    properties = v .properties;
+    associations = v .associations;
+    derivations = ds;
+    idat = dataOf (ofKind idat bs);
+  }
 
   unfoldable pub fromReferences : ℕ → List Item → List Location → Shown → Answer File
   fromReferences primary is ls v = referred (idsOf is) (placeOf iref at bs) (ofKind iref bs) >>= (λ ds. ok (fileBy primary is ls v ds))
@@ -58,7 +66,8 @@ module _ (at : ℕ) (bs : List (List ℕ)) where
   fromItems primary = items (placeOf iinf at bs) (beginOf iinf) (contentOf iinf) >>= (λ is. fromLocations primary is)
 
   unfoldable pub fromHandler : Answer File
-  fromHandler = front hdlr-form (placeOf hdlr at bs) (contentOf hdlr) >> (whole pitm-form (placeOf pitm at bs) (contentOf pitm) >>= (λ primary. fromItems primary))
+  fromHandler = front hdlr-form (placeOf hdlr at bs) (contentOf hdlr) >>
+      (whole pitm-form (placeOf pitm at bs) (contentOf pitm) >>= (λ primary. fromItems primary))
 
 -- the code's value: where the content of `idat` begins and ends, both 0 where there is none
 unfoldable pub toldFile : ℕ → Answer File → FileRead

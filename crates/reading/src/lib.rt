@@ -15,7 +15,25 @@ ghost use Rattle.records.specs.Raw.{unread, rawOf};
 ghost use Rattle.records.specs.Stage.{Kept, withItems, withLocations, withProperties, withNames};
 ghost use Rattle.records.specs.Rows.{Rowed};
 ghost use Rattle.reading.specs.declared.FileRead.the-variants.{Is};
-ghost use Rattle.reading.specs.Parts.{kids, Standing, Before, LastBefore, After, ReadLeft, shownOf, fromHandler, fromItems, fromLocations, fromShown, fromReferences, toldSpot, spotsIn, Missing, readAnswer, readWords};
+ghost use Rattle.reading.specs.Parts.{
+  kids,
+  Standing,
+  Before,
+  LastBefore,
+  After,
+  ReadLeft,
+  shownOf,
+  fromHandler,
+  fromItems,
+  fromLocations,
+  fromShown,
+  fromReferences,
+  toldSpot,
+  spotsIn,
+  Missing,
+  readAnswer,
+  readWords,
+};
 use boxes::FoundMeta;
 use boxes::Refusal;
 use boxes::Spot;
@@ -47,8 +65,11 @@ pub struct Counts {
 
 // The table's first words.
 fn put_head(table: &mut [u32], total: u64, primary: ItemId, c: Counts)
-    requires { ⌜ (11280 ≤ length (now table)) × (c .items ≤ 256) × (c .properties ≤ 256) × (c .associations ≤ 2048) × (c .targets ≤ 2048) × (c .extents ≤ 512) ⌝ }
-    ensures { λ _. ⌜ now (table .exit) ≡ set (set (set (set (set (set (set (set (now (table .entry)) 0 (c .items)) 1 (c .properties)) 2 (c .associations)) 3 (c .targets)) 4 (c .extents)) 5 (primary .0)) 6 (total / 4294967296)) 7 (total % 4294967296) ⌝ }
+    requires { ⌜ (11280 ≤ length (now table)) × (c .items ≤ 256) × (c .properties ≤ 256) × (c .associations ≤ 2048) ×
+        (c .targets ≤ 2048) × (c .extents ≤ 512) ⌝ }
+    ensures { λ _. ⌜ now (table .exit) ≡ set (set (set
+        (set (set (set (set (set (now (table .entry)) 0 (c .items)) 1 (c .properties)) 2 (c .associations)) 3
+        (c .targets)) 4 (c .extents)) 5 (primary .0)) 6 (total / 4294967296)) 7 (total % 4294967296) ⌝ }
 {
     table[0] = c.items as u32;
     table[1] = c.properties as u32;
@@ -92,8 +113,11 @@ fn read_last(
     c: Counts,
     slots: &[u32],
 ) -> FileRead
-    requires { ⌜ (Standing (now s) spots) × (at + length (now s) ≤ 65536) × (11280 ≤ length (now table)) × (2048 ≤ length (now rows)) × ((f : File) × (x : List ℕ) × LastBefore (now s) at c f x (now table)) ⌝ }
-    ensures { λ r. ⌜ ((f : File) (x : List ℕ) → LastBefore (now (s .entry)) at c f x (now (table .entry)) → After (now (s .entry)) at total (fromReferences at (kids (now (s .entry))) (primary .0) (f .items) (f .locations) (shownOf f)) r x (now (table .exit))) ⌝ }
+    requires { ⌜ (Standing (now s) spots) × (at + length (now s) ≤ 65536) × (11280 ≤ length (now table)) ×
+        (2048 ≤ length (now rows)) × ((f : File) × (x : List ℕ) × LastBefore (now s) at c f x (now table)) ⌝ }
+    ensures { λ r. ⌜ ((f : File) (x : List ℕ) → LastBefore (now (s .entry)) at c f x (now (table .entry)) →
+        After (now (s .entry)) at total (fromReferences at (kids (now (s .entry))) (primary .0) (f .items)
+        (f .locations) (shownOf f)) r x (now (table .exit))) ⌝ }
     ensures { λ _. ⌜ Kept (now (table .entry)) (now (table .exit)) ⌝ }
     ensures { λ r. ⌜ ((i e : ℕ) → r ≡ Is i e → Rowed (now (table .exit)) (now (rows .exit))) ⌝ }
 {
@@ -131,8 +155,13 @@ fn read_iprp(
     slots: &[u32],
     extents: usize,
 ) -> FileRead
-    requires { ⌜ (Standing (now s) spots) × (at + length (now s) ≤ 65536) × (11280 ≤ length (now table)) × (2048 ≤ length (now rows)) × ((is : List Item) × (ls : List Location) × (x : List ℕ) × Before (now s) at n (withLocations (withItems is) ls) x (now table) × (extentsIn ls ≡ extents)) ⌝ }
-    ensures { λ r. ⌜ ((is : List Item) (ls : List Location) (x : List ℕ) → Before (now (s .entry)) at n (withLocations (withItems is) ls) x (now (table .entry)) → extentsIn ls ≡ extents → After (now (s .entry)) at total (fromShown at (kids (now (s .entry))) (primary .0) is ls) r x (now (table .exit))) ⌝ }
+    requires { ⌜ (Standing (now s) spots) × (at + length (now s) ≤ 65536) × (11280 ≤ length (now table)) ×
+        (2048 ≤ length (now rows)) × ((is : List Item) × (ls : List Location) × (x : List ℕ) ×
+        Before (now s) at n (withLocations (withItems is) ls) x (now table) × (extentsIn ls ≡ extents)) ⌝ }
+    ensures { λ r. ⌜ ((is : List Item) (ls : List Location) (x : List ℕ) →
+        Before (now (s .entry)) at n (withLocations (withItems is) ls) x (now (table .entry)) → extentsIn ls ≡ extents →
+        After (now (s .entry)) at total (fromShown at (kids (now (s .entry))) (primary .0) is ls) r x
+        (now (table .exit))) ⌝ }
     ensures { λ _. ⌜ Kept (now (table .entry)) (now (table .exit)) ⌝ }
     ensures { λ r. ⌜ ((i e : ℕ) → r ≡ Is i e → Rowed (now (table .exit)) (now (rows .exit))) ⌝ }
 {
@@ -186,8 +215,13 @@ fn read_iloc(
     n: usize,
     slots: &[u32],
 ) -> FileRead
-    requires { ⌜ (Standing (now s) spots) × (at + length (now s) ≤ 65536) × (11280 ≤ length (now table)) × (2048 ≤ length (now rows)) × ((is : List Item) × (x : List ℕ) × Before (now s) at n (withItems is) x (now table)) ⌝ }
-    ensures { λ r. ⌜ ((is : List Item) (x : List ℕ) → Before (now (s .entry)) at n (withItems is) x (now (table .entry)) → After (now (s .entry)) at total (fromLocations at (kids (now (s .entry))) (primary .0) is) r x (now (table .exit))) ⌝ }
+    requires { ⌜ (Standing (now s) spots) × (at + length (now s) ≤ 65536) × (11280 ≤ length (now table)) ×
+        (2048 ≤ length (now rows)) × ((is : List Item) × (x : List ℕ) ×
+        Before (now s) at n (withItems is) x (now table)) ⌝ }
+    ensures { λ r. ⌜ ((is : List Item) (x : List ℕ) →
+        Before (now (s .entry)) at n (withItems is) x (now (table .entry)) →
+        After (now (s .entry)) at total (fromLocations at (kids (now (s .entry))) (primary .0) is) r x
+        (now (table .exit))) ⌝ }
     ensures { λ _. ⌜ Kept (now (table .entry)) (now (table .exit)) ⌝ }
     ensures { λ r. ⌜ ((i e : ℕ) → r ≡ Is i e → Rowed (now (table .exit)) (now (rows .exit))) ⌝ }
 {
@@ -224,8 +258,10 @@ fn read_iinf(
     total: u64,
     primary: ItemId,
 ) -> FileRead
-    requires { ⌜ (Standing (now s) spots) × (at + length (now s) ≤ 65536) × (11280 ≤ length (now table)) × (2048 ≤ length (now rows)) × ((x : List ℕ) × (now table ≡ replicate 11280 0 ++ x)) ⌝ }
-    ensures { λ r. ⌜ ((x : List ℕ) → (now (table .entry)) ≡ replicate 11280 0 ++ x → After (now (s .entry)) at total (fromItems at (kids (now (s .entry))) (primary .0)) r x (now (table .exit))) ⌝ }
+    requires { ⌜ (Standing (now s) spots) × (at + length (now s) ≤ 65536) × (11280 ≤ length (now table)) ×
+        (2048 ≤ length (now rows)) × ((x : List ℕ) × (now table ≡ replicate 11280 0 ++ x)) ⌝ }
+    ensures { λ r. ⌜ ((x : List ℕ) → (now (table .entry)) ≡ replicate 11280 0 ++ x →
+        After (now (s .entry)) at total (fromItems at (kids (now (s .entry))) (primary .0)) r x (now (table .exit))) ⌝ }
     ensures { λ _. ⌜ Kept (now (table .entry)) (now (table .exit)) ⌝ }
     ensures { λ r. ⌜ ((i e : ℕ) → r ≡ Is i e → Rowed (now (table .exit)) (now (rows .exit))) ⌝ }
 {
@@ -257,8 +293,10 @@ fn read_contents(
     rows: &mut [u32],
     total: u64,
 ) -> FileRead
-    requires { ⌜ (Standing (now s) spots) × (at + length (now s) ≤ 65536) × (11280 ≤ length (now table)) × (2048 ≤ length (now rows)) × ((x : List ℕ) × (now table ≡ replicate 11280 0 ++ x)) ⌝ }
-    ensures { λ r. ⌜ ((x : List ℕ) → (now (table .entry)) ≡ replicate 11280 0 ++ x → After (now (s .entry)) at total (fromHandler at (kids (now (s .entry)))) r x (now (table .exit))) ⌝ }
+    requires { ⌜ (Standing (now s) spots) × (at + length (now s) ≤ 65536) × (11280 ≤ length (now table)) ×
+        (2048 ≤ length (now rows)) × ((x : List ℕ) × (now table ≡ replicate 11280 0 ++ x)) ⌝ }
+    ensures { λ r. ⌜ ((x : List ℕ) → (now (table .entry)) ≡ replicate 11280 0 ++ x →
+        After (now (s .entry)) at total (fromHandler at (kids (now (s .entry)))) r x (now (table .exit))) ⌝ }
     ensures { λ _. ⌜ Kept (now (table .entry)) (now (table .exit)) ⌝ }
     ensures { λ r. ⌜ ((i e : ℕ) → r ≡ Is i e → Rowed (now (table .exit)) (now (rows .exit))) ⌝ }
 {
@@ -319,8 +357,10 @@ fn read_children(
     rows: &mut [u32],
     total: u64,
 ) -> FileRead
-    requires { ⌜ (at + length (now s) ≤ 65536) × (11280 ≤ length (now table)) × (2048 ≤ length (now rows)) × ((x : List ℕ) × (now table ≡ replicate 11280 0 ++ x)) ⌝ }
-    ensures { λ r. ⌜ ((x : List ℕ) → (now (table .entry)) ≡ replicate 11280 0 ++ x → After (now (s .entry)) at total (contentsOf place at (now (s .entry))) r x (now (table .exit))) ⌝ }
+    requires { ⌜ (at + length (now s) ≤ 65536) × (11280 ≤ length (now table)) × (2048 ≤ length (now rows)) ×
+        ((x : List ℕ) × (now table ≡ replicate 11280 0 ++ x)) ⌝ }
+    ensures { λ r. ⌜ ((x : List ℕ) → (now (table .entry)) ≡ replicate 11280 0 ++ x →
+        After (now (s .entry)) at total (contentsOf place at (now (s .entry))) r x (now (table .exit))) ⌝ }
     ensures { λ _. ⌜ Kept (now (table .entry)) (now (table .exit)) ⌝ }
     ensures { λ r. ⌜ ((i e : ℕ) → r ≡ Is i e → Rowed (now (table .exit)) (now (rows .exit))) ⌝ }
 {
@@ -350,8 +390,10 @@ fn read_meta(
     rows: &mut [u32],
     total: u64,
 ) -> FileRead
-    requires { ⌜ (at + length (now s) ≤ 65536) × (11280 ≤ length (now table)) × (2048 ≤ length (now rows)) × ((x : List ℕ) × (now table ≡ replicate 11280 0 ++ x)) ⌝ }
-    ensures { λ r. ⌜ ((x : List ℕ) → (now (table .entry)) ≡ replicate 11280 0 ++ x → After (drop 4 (now (s .entry))) (at + 4) total (fileOf place at (now (s .entry))) r x (now (table .exit))) ⌝ }
+    requires { ⌜ (at + length (now s) ≤ 65536) × (11280 ≤ length (now table)) × (2048 ≤ length (now rows)) ×
+        ((x : List ℕ) × (now table ≡ replicate 11280 0 ++ x)) ⌝ }
+    ensures { λ r. ⌜ ((x : List ℕ) → (now (table .entry)) ≡ replicate 11280 0 ++ x →
+        After (drop 4 (now (s .entry))) (at + 4) total (fileOf place at (now (s .entry))) r x (now (table .exit))) ⌝ }
     ensures { λ _. ⌜ Kept (now (table .entry)) (now (table .exit)) ⌝ }
     ensures { λ r. ⌜ ((i e : ℕ) → r ≡ Is i e → Rowed (now (table .exit)) (now (rows .exit))) ⌝ }
 {
@@ -367,7 +409,8 @@ fn read_meta(
 
 // The file into a table that is all 0.
 fn read_head(head: &[u8], total: u64, table: &mut [u32], rows: &mut [u32]) -> FileRead
-    requires { ⌜ (length (now head) ≤ 65536) × (length (now head) ≤ total) × (11280 ≤ length (now table)) × (2048 ≤ length (now rows)) × ((x : List ℕ) × (now table ≡ replicate 11280 0 ++ x)) ⌝ }
+    requires { ⌜ (length (now head) ≤ 65536) × (length (now head) ≤ total) × (11280 ≤ length (now table)) ×
+        (2048 ≤ length (now rows)) × ((x : List ℕ) × (now table ≡ replicate 11280 0 ++ x)) ⌝ }
     ensures { λ r. ⌜ ((x : List ℕ) → (now (table .entry)) ≡ replicate 11280 0 ++ x → ReadLeft total (now (head .entry)) r x (now (table .exit))) ⌝ }
     ensures { λ _. ⌜ Kept (now (table .entry)) (now (table .exit)) ⌝ }
     ensures { λ r. ⌜ ((i e : ℕ) → r ≡ Is i e → Rowed (now (table .exit)) (now (rows .exit))) ⌝ }
@@ -386,7 +429,8 @@ fn read_head(head: &[u8], total: u64, table: &mut [u32], rows: &mut [u32]) -> Fi
     }
 }
 
-// The whole reading. Refusal 1 writes nothing, the others leave the first 11,280 words 0. Where the file is read, `rows` has for each target the row that it names; elsewhere nothing is said of it.
+// The whole reading. Refusal 1 writes nothing, the others leave the first 11,280 words 0. Where the file is read,
+// `rows` has for each target the row that it names; elsewhere nothing is said of it.
 pub fn read_file(head: &[u8], total: u64, table: &mut [u32], rows: &mut [u32]) -> FileRead
     requires { ⌜ 2048 ≤ length (now rows) ⌝ }
     ensures { λ r. ⌜ r ≡ readAnswer (length (now (table .entry))) total (now (head .entry)) ⌝ }

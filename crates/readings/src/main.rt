@@ -1,6 +1,7 @@
 // Reads packed heads from standard input and prints, for each, what reading says of it and a sum over the table's words.
 // The input: how many heads (4 bytes), then for each its length (4), the file's total (8) and its bytes.
-// The table is never cleared between heads, and has 20 words more than it needs: the sum shows that nothing of an earlier file is left and nothing behind is written.
+// The table is never cleared between heads, and has 20 words more than it needs: the sum shows that nothing of an
+// earlier file is left and nothing behind is written.
 ghost use Prim.Native.Nat.{_<_};
 use boxes::Refusal;
 use reading::FileRead;

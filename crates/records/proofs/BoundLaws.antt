@@ -19,7 +19,8 @@ use Rattle.records.proofs.MemberLaws.{distinct-more}
 pub items-distinct : (s : List ℕ) (is : List Item) → Items s is → Distinct (idsOf is)
 items-distinct s is h =
     through-keeps (λ (l : List Item). Distinct (idsOf l)) ItemStep
-    (λ before b after d r. rw (r .kept, ids-more before (r .item)) (distinct-more (idsOf before) (r .item .id) d (infe-new before _ (r .item) (r .spells .spells))))
+    (λ before b after d r. rw (r .kept, ids-more before (r .item))
+    (distinct-more (idsOf before) (r .item .id) d (infe-new before _ (r .item) (r .spells .spells))))
     [] (h .then .boxes) is tt (h .then .through)
 
 -- readFile

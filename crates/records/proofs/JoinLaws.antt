@@ -52,5 +52,9 @@ module _ {A : Type 0} (f : A → List ℕ) (w : ℕ) (sized : (x : A) → length
       (sym (ap (λ (i : ℕ). sets (f x ++ joinAll f xs) i vs) e ∙ sets-first vs (f x) (joinAll f xs) k b))
   join-sets g d (x ∷ xs) (suc r) k vs h l here other =
       let e : w * suc r + k ≡ w + (w * r + k) = rw mul-suc (omega arith) in
-      rw (← other 0 (omega arith) (omega arith), join-sets g d xs r k vs (le-of-suc-le-suc h) l here (λ j m n. other (suc j) (omega arith) (λ q. n (omega arith))))
+      rw (
+        ← other 0 (omega arith) (omega arith),
+        join-sets g d xs r k vs (le-of-suc-le-suc h) l here
+            (λ j m n. other (suc j) (omega arith) (λ q. n (omega arith))),
+      )
       (sym (sets-from vs (f x) (joinAll f xs) w (w * r + k) (w * suc r + k) (sized x) e))

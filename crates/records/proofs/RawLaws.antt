@@ -1,4 +1,5 @@
--- The table of a file as far as it is read: its length, what one more item, location, property, association list or derivation changes in it, and what is read from it. Assumes nothing.
+-- The table of a file as far as it is read: its length, what one more item, location, property, association list or
+-- derivation changes in it, and what is read from it. Assumes nothing.
 --   hw    the first words of the table, at most 16
 --   x     the caller's words past the table
 use Prim.Native.Nat.{ℕ, zero, suc, _+_, _*_, _<_, _≤_}
@@ -23,14 +24,54 @@ use Rattle.rules.specs.Joined.{derivedFrom, rowOf, noItem, itemAt}
 use Rattle.rules.specs.Places.{Places}
 use Rattle.rules.specs.Words.{joinAll, region, propertiesFrom, associationWord}
 use Rattle.fields.proofs.TestLaws.{member-at}
-use Rattle.records.specs.Raw.{addItem, addLocation, addProperty, addNamed, addDerivation, Bounded, namedWords, derivedWords, placeWords, recordOf, recordsBy, extentRow, extentRows, associationRows, targetRows, rawOf}
+use Rattle.records.specs.Raw.{
+  addItem,
+  addLocation,
+  addProperty,
+  addNamed,
+  addDerivation,
+  Bounded,
+  namedWords,
+  derivedWords,
+  placeWords,
+  recordOf,
+  recordsBy,
+  extentRow,
+  extentRows,
+  associationRows,
+  targetRows,
+  rawOf,
+}
 use Rattle.records.specs.Rows.{idAt, Distinct, FoundIs}
 use Rattle.records.specs.declared.FoundRow.the-variants.{At, Nothing}
 use Rattle.table.specs.declared.ItemRow.{ItemRow}
 use Rattle.records.proofs.JoinLaws.{join-snoc, join-length, join-getD, join-sets}
 use Rattle.records.proofs.MemberLaws.{member-none, none-member, distinct-place}
-use Rattle.records.proofs.SaidLaws.{namedIn, named-none, derived-none, place-none, named-last, named-other, derived-last, derived-other, place-last, place-other}
-use Rattle.records.proofs.SetsLaws.{sets-first, sets-from, sets-over, getD-from, zeros, region-length, region-sets, region-add, region-zeros, region-set-past, region-front}
+use Rattle.records.proofs.SaidLaws.{
+  namedIn,
+  named-none,
+  derived-none,
+  place-none,
+  named-last,
+  named-other,
+  derived-last,
+  derived-other,
+  place-last,
+  place-other,
+}
+use Rattle.records.proofs.SetsLaws.{
+  sets-first,
+  sets-from,
+  sets-over,
+  getD-from,
+  zeros,
+  region-length,
+  region-sets,
+  region-add,
+  region-zeros,
+  region-set-past,
+  region-front,
+}
 
 -- recordOf: each part of a record stored over the same part of another
 module _ (i : Item) (a t l vs : List ℕ) where
@@ -136,7 +177,8 @@ module _ (h r : List ℕ) (lh : length h ≡ 16) (lr : length r ≡ 4096) where
         ∙ ap (λ (w : List ℕ). h ++ (r ++ w)) (sets-from vs p x 1024 i (1024 + i) lp refl)
 
     module _ (a : List ℕ) (la : length a ≡ 2048) where
-      in-associations : (x vs : List ℕ) (i : ℕ) → i + length vs ≤ 2048 → sets (h ++ (r ++ (p ++ (a ++ x)))) (5136 + i) vs ≡ h ++ (r ++ (p ++ (sets a i vs ++ x)))
+      in-associations : (x vs : List ℕ) (i : ℕ) → i + length vs ≤ 2048 →
+          sets (h ++ (r ++ (p ++ (a ++ x)))) (5136 + i) vs ≡ h ++ (r ++ (p ++ (sets a i vs ++ x)))
       in-associations x vs i l = past-properties (a ++ x) vs i ∙ ap (λ (w : List ℕ). h ++ (r ++ (p ++ w))) (sets-first vs a x i (omega arith))
 
       past-associations : (x vs : List ℕ) (i : ℕ) → sets (h ++ (r ++ (p ++ (a ++ x)))) (7184 + i) vs ≡ h ++ (r ++ (p ++ (a ++ sets x i vs)))
@@ -147,7 +189,8 @@ module _ (h r : List ℕ) (lh : length h ≡ 16) (lr : length r ≡ 4096) where
           ∙ ap (λ (w : List ℕ). h ++ (r ++ (p ++ w))) (sets-from vs a x 2048 i (2048 + i) la refl)
 
       module _ (t : List ℕ) (lt : length t ≡ 2048) where
-        in-targets : (x vs : List ℕ) (i : ℕ) → i + length vs ≤ 2048 → sets (h ++ (r ++ (p ++ (a ++ (t ++ x))))) (7184 + i) vs ≡ h ++ (r ++ (p ++ (a ++ (sets t i vs ++ x))))
+        in-targets : (x vs : List ℕ) (i : ℕ) → i + length vs ≤ 2048 →
+            sets (h ++ (r ++ (p ++ (a ++ (t ++ x))))) (7184 + i) vs ≡ h ++ (r ++ (p ++ (a ++ (sets t i vs ++ x))))
         in-targets x vs i l = past-associations (t ++ x) vs i ∙ ap (λ (w : List ℕ). h ++ (r ++ (p ++ (a ++ w)))) (sets-first vs t x i (omega arith))
 
         in-extents : (e x vs : List ℕ) (i : ℕ) → length e ≡ 2048 → i + length vs ≤ 2048
@@ -229,22 +272,27 @@ module _ (hw : List ℕ) (pl : Places) (x : List ℕ) (small : length hw ≤ 16)
       → set (set (set (set (region 16 hw ++ (region 4096 w ++ y)) (16 + n) a) (16 + n + 1) b) (16 + n + 2) c) (16 + n + 12) d
       ≡ region 16 hw ++ (region 4096 (w ++ set (set (set (set (zeros 16) 0 a) 1 b) 2 c) 12 d) ++ y)
   item-sets w y n a b c d e l =
-      ap (λ (r : List ℕ). set (set (set (set (region 16 hw ++ (r ++ y)) (16 + n) a) (16 + n + 1) b) (16 + n + 2) c) (16 + n + 12) d) (sym (region-zeros 4096 w 16 (omega arith)))
-      ∙ ap (λ (r : List ℕ). set (set (set r (16 + n + 1) b) (16 + n + 2) c) (16 + n + 12) d) (item-set w (zeros 16) y 0 a (16 + n) (omega arith) (omega arith) (omega arith))
-      ∙ ap (λ (r : List ℕ). set (set r (16 + n + 2) c) (16 + n + 12) d) (item-set w (set (zeros 16) 0 a) y 1 b (16 + n + 1) (omega arith) (omega arith) (omega arith))
+      ap (λ (r : List ℕ). set (set (set (set (region 16 hw ++ (r ++ y)) (16 + n) a) (16 + n + 1) b) (16 + n + 2) c)
+      (16 + n + 12) d) (sym (region-zeros 4096 w 16 (omega arith)))
+      ∙ ap (λ (r : List ℕ). set (set (set r (16 + n + 1) b) (16 + n + 2) c) (16 + n + 12) d)
+      (item-set w (zeros 16) y 0 a (16 + n) (omega arith) (omega arith) (omega arith))
+      ∙ ap (λ (r : List ℕ). set (set r (16 + n + 2) c) (16 + n + 12) d)
+      (item-set w (set (zeros 16) 0 a) y 1 b (16 + n + 1) (omega arith) (omega arith) (omega arith))
       ∙ ap (λ (r : List ℕ). set r (16 + n + 12) d) (item-set w (set (set (zeros 16) 0 a) 1 b) y 2 c (16 + n + 2) (omega arith) (omega arith) (omega arith))
       ∙ item-set w (set (set (set (zeros 16) 0 a) 1 b) 2 c) y 12 d (16 + n + 12) (omega arith) (omega arith) (omega arith)
 
   pub raw-item : (i : Item) → f .locations ≡ [] → f .associations ≡ [] → f .derivations ≡ [] → length (f .items) < 256
       → rawOf hw pl (addItem f i) ++ x
-      ≡ set (set (set (set (rawOf hw pl f ++ x) (16 + 16 * length (f .items)) (i .id)) (16 + 16 * length (f .items) + 1) (i .type)) (16 + 16 * length (f .items) + 2) (i .hidden)) (16 + 16 * length (f .items) + 12) (i .protection)
+      ≡ set (set (set (set (rawOf hw pl f ++ x) (16 + 16 * length (f .items)) (i .id)) (16 + 16 * length (f .items) + 1)
+      (i .type)) (16 + 16 * length (f .items) + 2) (i .hidden)) (16 + 16 * length (f .items) + 12) (i .protection)
   raw-item i el ea ed few =
       let n = 16 * length (f .items) in
       let y = propertyRegion pl f ++ (associationRegion f ++ (targetRegion f ++ (extentRegion pl f ++ x))) in
       raw-parts hw pl x (addItem f i)
       ∙ ap (λ (w : List ℕ). region 16 hw ++ (region 4096 w ++ y)) (records-snoc f i ∙ ap (λ (w : List ℕ). recordsIn f ++ w) (row-none f i el ea ed))
       ∙ sym
-      (ap (λ (t : List ℕ). set (set (set (set t (16 + n) (i .id)) (16 + n + 1) (i .type)) (16 + n + 2) (i .hidden)) (16 + n + 12) (i .protection)) (raw-parts hw pl x f)
+      (ap (λ (t : List ℕ). set (set (set (set t (16 + n) (i .id)) (16 + n + 1) (i .type)) (16 + n + 2) (i .hidden))
+      (16 + n + 12) (i .protection)) (raw-parts hw pl x f)
       ∙ item-sets (recordsIn f) y n (i .id) (i .type) (i .hidden) (i .protection) (records-length f) (omega arith))
 
 -- rawOf: one more property
@@ -258,10 +306,12 @@ module _ (hw : List ℕ) (pl : Places) (x : List ℕ) (small : length hw ≤ 16)
       let y = associationRegion f ++ (targetRegion f ++ (extentRegion pl f ++ x)) in
       raw-parts hw pl x (addProperty f b)
       ∙ ap (λ (w : List ℕ). region 16 hw ++ (recordRegion f ++ (w ++ y)))
-      (ap (region 1024) (properties-snoc (pl .properties) (f .properties) b) ∙ region-add 1024 _ vs n (properties-length (pl .properties) (f .properties)) (omega arith))
+      (ap (region 1024) (properties-snoc (pl .properties) (f .properties) b) ∙
+      region-add 1024 _ vs n (properties-length (pl .properties) (f .properties)) (omega arith))
       ∙ sym
       (ap (λ (t : List ℕ). sets t (4112 + n) vs) (raw-parts hw pl x f)
-      ∙ in-properties (region 16 hw) (recordRegion f) (region-length 16 hw small) (records-fill pl f bd) (propertyRegion pl f) (properties-fill pl f bd) y vs n (omega arith))
+      ∙ in-properties (region 16 hw) (recordRegion f) (region-length 16 hw small) (records-fill pl f bd)
+      (propertyRegion pl f) (properties-fill pl f bd) y vs n (omega arith))
 
 -- idsOf
 pub id-at : (is : List Item) (r : ℕ) → getD (idsOf is) r 0 ≡ getD is r noItem .id
@@ -281,7 +331,8 @@ records-change F G sized y k vs here other l is r d h e =
     (λ j m apart. other (getD is j noItem) (λ q. apart (distinct-place (idsOf is) j r d (omega arith) (omega arith) (id-at is j ∙ q ∙ sym e))))
 
 -- recordRegion: the same for two files with the same items, f before and g after
-module _ (f g : File) (same : g .items ≡ f .items) (y k : ℕ) (vs : List ℕ) (r : ℕ) (d : Distinct (idsOf (f .items))) (h : r < length (f .items)) (e : getD (idsOf (f .items)) r 0 ≡ y) where
+module _ (f g : File) (same : g .items ≡ f .items) (y k : ℕ) (vs : List ℕ) (r : ℕ) (d : Distinct (idsOf (f .items)))
+    (h : r < length (f .items)) (e : getD (idsOf (f .items)) r 0 ≡ y) where
   region-change : ((i : Item) → i .id ≡ y → rowWords g i ≡ sets (rowWords f i) k vs) → ((i : Item) → (i .id ≡ y → ⊥) → rowWords f i ≡ rowWords g i)
       → k + length vs ≤ 16 → recordRegion g ≡ sets (recordRegion f) (16 * r + k) vs
   region-change here other l =
@@ -305,7 +356,8 @@ module _ (f : File) (i : Item) where
 
   named-apart : (n : Named) → (i .id ≡ n .id → ⊥) → rowWords f i ≡ rowWords (addNamed f n) i
   named-apart n h =
-      ap (λ (w : List ℕ). recordOf i w (derivedWords (f .derivations) (i .id)) (placeWords (f .locations) (i .id))) (sym (named-other (f .associations) n (i .id) h))
+      ap (λ (w : List ℕ). recordOf i w (derivedWords (f .derivations) (i .id)) (placeWords (f .locations) (i .id)))
+      (sym (named-other (f .associations) n (i .id) h))
 
   derived-row : (d : Derivation) → member (d .id) (derivedIn (f .derivations)) ≡ false → i .id ≡ d .id
       → rowWords (addDerivation f d) i ≡ sets (rowWords f i) 5 (pick (eqb (length (d .targets)) 0) 0 (targetsIn (f .derivations)) ∷ length (d .targets) ∷ [])
@@ -318,7 +370,8 @@ module _ (f : File) (i : Item) where
 
   derived-apart : (d : Derivation) → (i .id ≡ d .id → ⊥) → rowWords f i ≡ rowWords (addDerivation f d) i
   derived-apart d h =
-      ap (λ (w : List ℕ). recordOf i (namedWords (f .associations) (i .id)) w (placeWords (f .locations) (i .id))) (sym (derived-other (f .derivations) d (i .id) h))
+      ap (λ (w : List ℕ). recordOf i (namedWords (f .associations) (i .id)) w (placeWords (f .locations) (i .id)))
+      (sym (derived-other (f .derivations) d (i .id) h))
 
   place-row : (l : Location) → member (l .id) (locatedIn (f .locations)) ≡ false → i .id ≡ l .id
       → rowWords (addLocation f l) i
@@ -327,14 +380,17 @@ module _ (f : File) (i : Item) where
       let a = namedWords (f .associations) (i .id) in
       let t = derivedWords (f .derivations) (i .id) in
       ap (λ (w : List ℕ). recordOf i a t w) (ap (placeWords (f .locations ++ (l ∷ []))) e ∙ place-last (f .locations) l new)
-      ∙ record-place i a t (placeWords (f .locations) (i .id)) _ (named-length (f .associations) (i .id)) (derived-length (f .derivations) (i .id)) (place-length (f .locations) (i .id))
+      ∙ record-place i a t (placeWords (f .locations) (i .id)) _ (named-length (f .associations) (i .id))
+      (derived-length (f .derivations) (i .id)) (place-length (f .locations) (i .id))
 
   place-apart : (l : Location) → (i .id ≡ l .id → ⊥) → rowWords f i ≡ rowWords (addLocation f l) i
   place-apart l h =
-      ap (λ (w : List ℕ). recordOf i (namedWords (f .associations) (i .id)) (derivedWords (f .derivations) (i .id)) w) (sym (place-other (f .locations) l (i .id) h))
+      ap (λ (w : List ℕ). recordOf i (namedWords (f .associations) (i .id)) (derivedWords (f .derivations) (i .id)) w)
+      (sym (place-other (f .locations) l (i .id) h))
 
 -- associationRows, targetRows, extentRows
-associations-snoc : (ns : List Named) (n : Named) → associationRows (ns ++ (n ∷ [])) ≡ associationRows ns ++ map (λ (a : Association). associationWord a) (n .list)
+associations-snoc : (ns : List Named) (n : Named) → associationRows (ns ++ (n ∷ [])) ≡ associationRows ns ++
+    map (λ (a : Association). associationWord a) (n .list)
 unfolding associationRows
 associations-snoc ns n = join-snoc (λ (m : Named). map (λ (a : Association). associationWord a) (m .list)) ns n
 
@@ -342,7 +398,8 @@ targets-snoc : (ds : List Derivation) (d : Derivation) → targetRows (ds ++ (d 
 unfolding targetRows
 targets-snoc ds d = join-snoc (λ (e : Derivation). e .targets) ds d
 
-extents-snoc : (pl : Places) (ls : List Location) (l : Location) → extentRows pl (ls ++ (l ∷ [])) ≡ extentRows pl ls ++ joinAll (λ (e : Extent). extentRow pl l e) (l .extents)
+extents-snoc : (pl : Places) (ls : List Location) (l : Location) → extentRows pl (ls ++ (l ∷ [])) ≡ extentRows pl ls ++
+    joinAll (λ (e : Extent). extentRow pl l e) (l .extents)
 unfolding extentRows
 extents-snoc pl ls l = join-snoc (λ (m : Location). joinAll (λ (e : Extent). extentRow pl m e) (m .extents)) ls l
 
@@ -356,7 +413,8 @@ two-runs t u h r q y z ws vs m i k et eu ez eq lh lr l ek =
     ∙ ap (λ (w : List ℕ). sets w k vs) (sym ez ∙ ap (λ (w : List ℕ). sets w m ws) (sym et))
 
 -- rawOf: one more list of associations, derivation or location of an item in row r, of which nothing was said yet
-module _ (hw : List ℕ) (pl : Places) (x : List ℕ) (small : length hw ≤ 16) (f : File) (bd : Bounded f) (r : ℕ) (ds : Distinct (idsOf (f .items))) (h : r < length (f .items)) where
+module _ (hw : List ℕ) (pl : Places) (x : List ℕ) (small : length hw ≤ 16) (f : File) (bd : Bounded f) (r : ℕ)
+    (ds : Distinct (idsOf (f .items))) (h : r < length (f .items)) where
   pub raw-named : (n : Named) → getD (idsOf (f .items)) r 0 ≡ n .id → member (n .id) (namedIn (f .associations)) ≡ false
       → associationsIn (f .associations) + length (n .list) ≤ 2048
       → rawOf hw pl (addNamed f n) ++ x
@@ -372,9 +430,11 @@ module _ (hw : List ℕ) (pl : Places) (x : List ℕ) (small : length hw ≤ 16)
       let fits : c + length ws ≤ 2048 = rw length-map few in
       two-runs _ _ (region 16 hw) (recordRegion f) (recordRegion (addNamed f n)) _ _ ws vs (5136 + c) (16 * r + 3) (16 + 16 * r + 3)
       (raw-parts hw pl x f) (raw-parts hw pl x (addNamed f n))
-      (in-associations (region 16 hw) (recordRegion f) (region-length 16 hw small) (records-fill pl f bd) (propertyRegion pl f) (properties-fill pl f bd) (associationRegion f) (associations-fill pl f bd) y ws c fits
+      (in-associations (region 16 hw) (recordRegion f) (region-length 16 hw small) (records-fill pl f bd)
+      (propertyRegion pl f) (properties-fill pl f bd) (associationRegion f) (associations-fill pl f bd) y ws c fits
       ∙ ap (λ (w : List ℕ). region 16 hw ++ (recordRegion f ++ (propertyRegion pl f ++ (w ++ y))))
-      (sym (ap (region 2048) (associations-snoc (f .associations) n) ∙ region-add 2048 (associationRows (f .associations)) ws c (associations-length (f .associations)) fits)))
+      (sym (ap (region 2048) (associations-snoc (f .associations) n) ∙
+      region-add 2048 (associationRows (f .associations)) ws c (associations-length (f .associations)) fits)))
       (region-change f (addNamed f n) refl (n .id) 3 vs r ds h e (λ i q. named-row f i n new q) (λ i q. named-apart f i n q) (omega arith))
       (region-length 16 hw small) (records-fill pl f bd) (omega arith) (omega arith)
 
@@ -391,9 +451,12 @@ module _ (hw : List ℕ) (pl : Places) (x : List ℕ) (small : length hw ≤ 16)
       let y = extentRegion pl f ++ x in
       two-runs _ _ (region 16 hw) (recordRegion f) (recordRegion (addDerivation f d)) _ _ (d .targets) vs (7184 + c) (16 * r + 5) (16 + 16 * r + 5)
       (raw-parts hw pl x f) (raw-parts hw pl x (addDerivation f d))
-      (in-targets (region 16 hw) (recordRegion f) (region-length 16 hw small) (records-fill pl f bd) (propertyRegion pl f) (properties-fill pl f bd) (associationRegion f) (associations-fill pl f bd) (targetRegion f) (targets-fill pl f bd) y (d .targets) c few
+      (in-targets (region 16 hw) (recordRegion f) (region-length 16 hw small) (records-fill pl f bd)
+      (propertyRegion pl f) (properties-fill pl f bd) (associationRegion f) (associations-fill pl f bd)
+      (targetRegion f) (targets-fill pl f bd) y (d .targets) c few
       ∙ ap (λ (w : List ℕ). region 16 hw ++ (recordRegion f ++ (propertyRegion pl f ++ (associationRegion f ++ (w ++ y)))))
-      (sym (ap (region 2048) (targets-snoc (f .derivations) d) ∙ region-add 2048 (targetRows (f .derivations)) (d .targets) c (targets-length (f .derivations)) few)))
+      (sym (ap (region 2048) (targets-snoc (f .derivations) d) ∙
+      region-add 2048 (targetRows (f .derivations)) (d .targets) c (targets-length (f .derivations)) few)))
       (region-change f (addDerivation f d) refl (d .id) 5 vs r ds h e (λ i q. derived-row f i d new q) (λ i q. derived-apart f i d q) (omega arith))
       (region-length 16 hw small) (records-fill pl f bd) (omega arith) (omega arith)
 
@@ -411,7 +474,9 @@ module _ (hw : List ℕ) (pl : Places) (x : List ℕ) (small : length hw ≤ 16)
       let fits : c + length ws ≤ 2048 = rw (extent-length pl l (l .extents)) (omega arith) in
       two-runs _ _ (region 16 hw) (recordRegion f) (recordRegion (addLocation f l)) _ _ ws vs (9232 + c) (16 * r + 7) (16 + 16 * r + 7)
       (raw-parts hw pl x f) (raw-parts hw pl x (addLocation f l))
-      (in-extents (region 16 hw) (recordRegion f) (region-length 16 hw small) (records-fill pl f bd) (propertyRegion pl f) (properties-fill pl f bd) (associationRegion f) (associations-fill pl f bd) (targetRegion f) (targets-fill pl f bd) (extentRegion pl f) x ws c (extents-fill pl f bd) fits
+      (in-extents (region 16 hw) (recordRegion f) (region-length 16 hw small) (records-fill pl f bd)
+      (propertyRegion pl f) (properties-fill pl f bd) (associationRegion f) (associations-fill pl f bd)
+      (targetRegion f) (targets-fill pl f bd) (extentRegion pl f) x ws c (extents-fill pl f bd) fits
       ∙ ap (λ (w : List ℕ). region 16 hw ++ (recordRegion f ++ (propertyRegion pl f ++ (associationRegion f ++ (targetRegion f ++ (w ++ x))))))
       (sym (ap (region 2048) (extents-snoc pl (f .locations) l) ∙ region-add 2048 (extentRows pl (f .locations)) ws c (extents-length pl (f .locations)) fits)))
       (region-change f (addLocation f l) refl (l .id) 7 vs r ds h e (λ i q. place-row f i l new q) (λ i q. place-apart f i l q) (omega arith))
@@ -433,11 +498,13 @@ module _ (hw : List ℕ) (pl : Places) (x : List ℕ) (small : length hw ≤ 16)
       let e : 16 + 16 * r ≡ 16 + 16 * r + 0 = omega arith in
       ap (λ (k : ℕ). getD (rawOf hw pl f ++ x) k 0) e ∙ raw-record r 0 h (omega arith) ∙ sym (id-at (f .items) r)
 
-  pub raw-derived : (r : ℕ) → r < length (f .items) → getD (rawOf hw pl f ++ x) (16 + 16 * r + 6) 0 ≡ length (derivedFrom (f .derivations) (getD (idsOf (f .items)) r 0))
+  pub raw-derived : (r : ℕ) → r < length (f .items) → getD (rawOf hw pl f ++ x) (16 + 16 * r + 6) 0 ≡ length
+      (derivedFrom (f .derivations) (getD (idsOf (f .items)) r 0))
   unfolding recordOf namedWords derivedWords
   raw-derived r h = raw-record r 6 h (omega arith) ∙ ap (λ (y : ℕ). length (derivedFrom (f .derivations) y)) (sym (id-at (f .items) r))
 
-  pub raw-located : (r : ℕ) → r < length (f .items) → getD (rawOf hw pl f ++ x) (16 + 16 * r + 11) 0 ≡ pick (member (getD (idsOf (f .items)) r 0) (locatedIn (f .locations))) 1 0
+  pub raw-located : (r : ℕ) → r < length (f .items) → getD (rawOf hw pl f ++ x) (16 + 16 * r + 11) 0 ≡ pick
+      (member (getD (idsOf (f .items)) r 0) (locatedIn (f .locations))) 1 0
   unfolding recordOf namedWords derivedWords placeWords
   raw-located r h = raw-record r 11 h (omega arith) ∙ ap (λ (y : ℕ). pick (member y (locatedIn (f .locations))) 1 0) (sym (id-at (f .items) r))
 

@@ -1,7 +1,8 @@
 -- The table while a file is read: like the words of an accepted file, but for what later rules still need, which stands where the sizes will be.
 --   unread, addItem, ..  a file as far as it is read;   Bounded    it keeps the limits
 --   namedWords, derivedWords, placeWords    what the lists read so far say of an ID, as words of its record
---   recordOf i a t l     an item's record: ID, type, hidden; first association and count; first target and count; first extent, count, method, data reference, 1 if `iloc` has an entry; protection index
+-- recordOf i a t l     an item's record: ID, type, hidden; first association and count; first target and count; first
+-- extent, count, method, data reference, 1 if `iloc` has an entry; protection index
 --   rawOf hw pl f        the table of the file f as far as it is read, hw being its first words
 use Prim.Native.Nat.{ℕ, _+_, _≤_}
 use mathlib.Core.List.{List, [], _∷_, _++_, map}
@@ -23,19 +24,63 @@ abbrev pub unread : File
 unread = record { primary = 0; items = []; locations = []; properties = []; associations = []; derivations = []; idat = [] }
 
 abbrev pub addItem : File → Item → File
-addItem f i = record { primary = f .primary; items = f .items ++ (i ∷ []); locations = f .locations; properties = f .properties; associations = f .associations; derivations = f .derivations; idat = f .idat }
+addItem f i = record {
+  primary = f .primary;
+  items = f .items ++ (i ∷ []);
+  locations = f .locations;
+  properties =
+      f .properties;
+  associations = f .associations;
+  derivations = f .derivations;
+  idat = f .idat;
+}
 
 abbrev pub addLocation : File → Location → File
-addLocation f l = record { primary = f .primary; items = f .items; locations = f .locations ++ (l ∷ []); properties = f .properties; associations = f .associations; derivations = f .derivations; idat = f .idat }
+addLocation f l = record {
+  primary = f .primary;
+  items = f .items;
+  locations = f .locations ++ (l ∷ []);
+  properties =
+      f .properties;
+  associations = f .associations;
+  derivations = f .derivations;
+  idat = f .idat;
+}
 
 abbrev pub addProperty : File → List ℕ → File
-addProperty f b = record { primary = f .primary; items = f .items; locations = f .locations; properties = f .properties ++ (b ∷ []); associations = f .associations; derivations = f .derivations; idat = f .idat }
+addProperty f b = record {
+  primary = f .primary;
+  items = f .items;
+  locations = f .locations;
+  properties =
+      f .properties ++ (b ∷ []);
+  associations = f .associations;
+  derivations = f .derivations;
+  idat = f .idat;
+}
 
 abbrev pub addNamed : File → Named → File
-addNamed f n = record { primary = f .primary; items = f .items; locations = f .locations; properties = f .properties; associations = f .associations ++ (n ∷ []); derivations = f .derivations; idat = f .idat }
+addNamed f n = record {
+  primary = f .primary;
+  items = f .items;
+  locations = f .locations;
+  properties = f .properties;
+  associations = f .associations ++ (n ∷ []);
+  derivations = f .derivations;
+  idat = f .idat;
+}
 
 abbrev pub addDerivation : File → Derivation → File
-addDerivation f d = record { primary = f .primary; items = f .items; locations = f .locations; properties = f .properties; associations = f .associations; derivations = f .derivations ++ (d ∷ []); idat = f .idat }
+addDerivation f d = record {
+  primary = f .primary;
+  items = f .items;
+  locations = f .locations;
+  properties =
+      f .properties;
+  associations = f .associations;
+  derivations = f .derivations ++ (d ∷ []);
+  idat = f .idat;
+}
 
 -- within the limits of document 01
 pub record Bounded (f : File) : Type 0 where

@@ -2,7 +2,8 @@
 --   idAt t r           the ID in row r;   idsIn t n    those of the first n rows
 --   Distinct ids       no ID stands twice
 --   slotOf id          the slot that an ID falls into
---   RowedTo n k t v    v has for each of the first k targets of the table t the row, among the first n, that it names;   Rowed t v    the same for all of a table that was read
+-- RowedTo n k t v    v has for each of the first k targets of the table t the row, among the first n, that it names;
+-- Rowed t v    the same for all of a table that was read
 --   FoundIs t n id     what a lookup says, whatever order it searches in
 use Prim.Native.Nat.{ℕ, zero, suc, _+_, _*_, _/_, _%_, _<_, _≤_}
 use mathlib.Core.Path.{_≡_}

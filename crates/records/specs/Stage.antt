@@ -25,16 +25,57 @@ pub record Ready (f : File) (n : ℕ) : Type 0 where
   pub bounded : Bounded f
 
 abbrev pub withItems : List Item → File
-withItems is = record { primary = 0; items = is; locations = unread .locations; properties = unread .properties; associations = unread .associations; derivations = unread .derivations; idat = unread .idat }
+withItems is = record {
+  primary = 0;
+  items = is;
+  locations = unread .locations;
+  properties = unread .properties;
+  associations = unread .associations;
+  derivations = unread .derivations;
+  idat = unread .idat;
+}
 
 abbrev pub withLocations : File → List Location → File
-withLocations f ls = record { primary = f .primary; items = f .items; locations = ls; properties = f .properties; associations = f .associations; derivations = f .derivations; idat = f .idat }
+withLocations f ls = record {
+  primary = f .primary;
+  items = f .items;
+  locations = ls;
+  properties = f .properties;
+  associations = f .associations;
+  derivations = f .derivations;
+  idat = f .idat;
+}
 
 abbrev pub withProperties : File → List (List ℕ) → File
-withProperties f ps = record { primary = f .primary; items = f .items; locations = f .locations; properties = ps; associations = f .associations; derivations = f .derivations; idat = f .idat }
+withProperties f ps = record {
+  primary = f .primary;
+  items = f .items;
+  locations = f .locations;
+  properties = ps;
+  associations = f .associations;
+  derivations = f .derivations;
+  idat = f .idat;
+}
 
 abbrev pub withNames : File → List Named → File
-withNames f ns = record { primary = f .primary; items = f .items; locations = f .locations; properties = f .properties; associations = ns; derivations = f .derivations; idat = f .idat }
+withNames f ns = record {
+  primary = f .primary;
+  items = f .items;
+  locations = f .locations;
+  properties = f .properties;
+  associations = ns;
+  derivations = f .derivations;
+  idat = f .idat;
+}
 
 abbrev pub withDerivations : File → List Derivation → File
-withDerivations f ds = record { primary = f .primary; items = f .items; locations = f .locations; properties = f .properties; associations = f .associations; derivations = ds; idat = f .idat }
+withDerivations f ds = record {
+  primary = f .primary;
+  items = f .items;
+  locations = f .locations;
+  properties =
+      f .properties;
+  associations = f .associations;
+  derivations = ds;
+  idat = f .idat;
+}

@@ -15,7 +15,9 @@ pub enum FoundRow {
     Nothing,
 }
 
-// The row among the first n of an ID. Files name items in much the same order again and again, and number them one after the other: the row that the caller hopes for is looked at first, then the one that the ID points to, then the one in its slot. Only then are rows searched.
+// The row among the first n of an ID. Files name items in much the same order again and again, and number them one
+// after the other: the row that the caller hopes for is looked at first, then the one that the ID points to, then the
+// one in its slot. Only then are rows searched.
 pub fn row_of(table: &[u32], n: usize, id: ItemId, hope: ItemRow, slots: &[u32]) -> FoundRow
     requires { ⌜ (n ≤ 256) × (11280 ≤ length (now table)) ⌝ }
     ensures { λ r. ⌜ FoundIs (now (table .entry)) n (id .0) r ⌝ }
@@ -38,7 +40,10 @@ pub fn slot_of(id: ItemId) -> usize
     (x + x / 256 + x / 65536) % 512
 }
 
-// The row among the first n of an ID by its slot. Words 0 to 511 of `slots` have, slot by slot, 1 more than the last row in it, words 512 on, row by row, 1 more than the row before it in the same slot; 0 where there is none. Nothing is promised of slots: each row is looked at, rows that do not fall end the way, and where none is the item's, all are searched.
+// The row among the first n of an ID by its slot. Words 0 to 511 of `slots` have, slot by slot, 1 more than the last
+// row in it, words 512 on, row by row, 1 more than the row before it in the same slot; 0 where there is none. Nothing
+// is promised of slots: each row is looked at, rows that do not fall end the way, and where none is the item's, all are
+// searched.
 pub fn row_in_slot(table: &[u32], n: usize, id: ItemId, slots: &[u32]) -> FoundRow
     requires { ⌜ (n ≤ 256) × (11280 ≤ length (now table)) ⌝ }
     ensures { λ r. ⌜ FoundIs (now (table .entry)) n (id .0) r ⌝ }

@@ -57,7 +57,8 @@ module _ (s : List ℕ) (w place base n : ℕ) (t : List ℕ) where
     pub ids : (k : ℕ) → k < n → idAt u k ≡ idAt t k
     pub marked : Marked u n before
     pub kept : Kept t u
-    pub told : (pl : Places) (f : File) (x : List ℕ) → Ready f n → f .derivations ≡ [] → t ≡ rawOf [] pl f ++ x → u ≡ rawOf [] pl (withDerivations f before) ++ x
+    pub told : (pl : Places) (f : File) (x : List ℕ) → Ready f n → f .derivations ≡ [] → t ≡ rawOf [] pl f ++ x →
+        u ≡ rawOf [] pl (withDerivations f before) ++ x
 
   pub begin : 4 ≤ length s → ((k : ℕ) → k < n → getD t (16 + 16 * k + 6) 0 ≡ 0) → So t 4 0
   unfolding targetsIn
@@ -80,8 +81,14 @@ module _ (s : List ℕ) (w place base n : ℕ) (t : List ℕ) where
 
   refuses : (u : List ℕ) (m q : ℕ) → Kept t u → allOf ≡ refuse m q → Tells u (read.Refused (record { number = m; place = q }))
   unfolding toldReferences
-  refuses u m q k e =
-      (sym (ap toldReferences e), record { kept = k; told = λ pl f x ds r z o i. let y : refuse m q ≡ ok ds = sym e ∙ o in let no-way : _≡_ {A = ℕ} 0 1 = cc in absurd (omega arith) })
+  refuses u m q k e = (
+    sym (ap toldReferences e),
+    record {
+      kept = k;
+      told = λ pl f x ds r z o i. let y : refuse m q ≡ ok ds = sym e ∙
+          o in let no-way : _≡_ {A = ℕ} 0 1 = cc in absurd (omega arith);
+    },
+  )
 
   module _ (u : List ℕ) (at used : ℕ) (so : So u at used) where
     pub at-bad : childAt s at ≡ child.Bad → Tells u (read.Refused (record { number = 3; place = base + at }))
@@ -95,7 +102,11 @@ module _ (s : List ℕ) (w place base n : ℕ) (t : List ℕ) where
     at-end e =
         let a : allOf ≡ ok (so .before) = so .same ∙ from-end s at (reference (idsIn t n) w) place base (so .before) e in (
           ap read.Targets (so .count) ∙ sym (ap toldReferences a),
-          record { kept = so .kept; told = λ pl f x ds r z o i. so .told pl f x r z i ∙ ap (λ (v : List Derivation). rawOf [] pl (withDerivations f v) ++ x) (ok-inj _ _ (sym a ∙ o)) },
+          record {
+            kept = so .kept;
+            told = λ pl f x ds r z o i. so .told pl f x r z i ∙
+                ap (λ (v : List Derivation). rawOf [] pl (withDerivations f v) ++ x) (ok-inj _ _ (sym a ∙ o));
+          },
         )
 
     -- a child
@@ -109,7 +120,8 @@ module _ (s : List ℕ) (w place base n : ℕ) (t : List ℕ) where
       abbrev pub content : List ℕ
       content = take (end - body) (drop body s)
 
-      step : allOf ≡ (stepped (idsIn t n) w (eqb kind dimg) (base + at) (so .before) content >>= (λ ds. childrenFrom (reference (idsIn t n) w) place base s end ds))
+      step : allOf ≡ (stepped (idsIn t n) w (eqb kind dimg) (base + at) (so .before) content >>=
+          (λ ds. childrenFrom (reference (idsIn t n) w) place base s end ds))
       unfolding reference stepped
       step =
           so .same
@@ -117,8 +129,11 @@ module _ (s : List ℕ) (w place base n : ℕ) (t : List ℕ) where
           ∙ rw (there .its-kind, stood-body s at kind body end there)
 
       -- read into the table v
-      module _ (v : List ℕ) (isDimg : Bool) (y : isDimg ≡ eqb kind dimg) (keeps : Kept u v) (other : isDimg ≡ false → v ≡ u) (r : ReferencesRead) (x : Put w isDimg (base + at) content n used (so .before) u v r) where
-        answered : (a : Answer (List Derivation)) → stepped (idsIn u n) w isDimg (base + at) (so .before) content ≡ a → allOf ≡ (a >>= (λ ds. childrenFrom (reference (idsIn t n) w) place base s end ds))
+      module _ (v : List ℕ) (isDimg : Bool) (y : isDimg ≡ eqb kind dimg) (keeps : Kept u v)
+          (other : isDimg ≡ false → v ≡ u) (r : ReferencesRead)
+          (x : Put w isDimg (base + at) content n used (so .before) u v r) where
+        answered : (a : Answer (List Derivation)) → stepped (idsIn u n) w isDimg (base + at) (so .before) content ≡ a →
+            allOf ≡ (a >>= (λ ds. childrenFrom (reference (idsIn t n) w) place base s end ds))
         answered a q = step ∙ rw (← y, ← ids-same t u n (so .ids), q)
 
         pub refused : (z : Refusal) → r ≡ read.Refused z → Tells v (read.Refused z)
@@ -127,16 +142,29 @@ module _ (s : List ℕ) (w place base n : ℕ) (t : List ℕ) where
 
         module _ (few : n ≤ 256) (room : 11280 ≤ length t) (distinct : Distinct (idsIn t n)) (k : ℕ) (q : r ≡ read.Targets k) where
           -- the derivations of the answer: those before, or one more
-          same-by : (ds : List Derivation) → stepped (idsIn u n) w isDimg (base + at) (so .before) content ≡ ok ds → allOf ≡ childrenFrom (reference (idsIn t n) w) place base s end ds
+          same-by : (ds : List Derivation) → stepped (idsIn u n) w isDimg (base + at) (so .before) content ≡ ok ds →
+              allOf ≡ childrenFrom (reference (idsIn t n) w) place base s end ds
           unfolding _>>=_
           same-by ds z = answered (ok ds) z
 
           passed : isDimg ≡ false → stepped (idsIn u n) w isDimg (base + at) (so .before) content ≡ ok (so .before) → k ≡ targetsIn (so .before) → So v end k
           passed z a c =
               subst (λ (l : List ℕ). So l end k) (sym (other z))
-              (record { before = so .before; here = there .inside; count = c; few = omega (arith, so .count, so .few); same = same-by (so .before) a; ids = so .ids; marked = so .marked; kept = so .kept; told = so .told })
+              (record {
+                before = so .before;
+                here = there .inside;
+                count = c;
+                few = omega (arith, so .count, so .few);
+                same = same-by (so .before) a;
+                ids = so .ids;
+                marked = so .marked;
+                kept = so .kept;
+                told = so .told;
+              })
 
-          added : (d : Derivation) → Stored n used (so .before) d u v → stepped (idsIn u n) w isDimg (base + at) (so .before) content ≡ ok (so .before ++ (d ∷ [])) → k ≡ targetsIn (so .before ++ (d ∷ [])) → So v end k
+          added : (d : Derivation) → Stored n used (so .before) d u v →
+              stepped (idsIn u n) w isDimg (base + at) (so .before) content ≡ ok (so .before ++ (d ∷ [])) →
+              k ≡ targetsIn (so .before ++ (d ∷ [])) → So v end k
           added d z a c =
               let l : 11280 ≤ length u = omega (arith, so .kept .same-length) in
               record {
@@ -158,7 +186,10 @@ module _ (s : List ℕ) (w place base n : ℕ) (t : List ℕ) where
               let b = bind-ok _ _ (a .0) (a .1) in
               by isDimg refl (a .0) (a .1) (a .2) (b .0) (b .1) (ok-inj _ _ (b .2))
             where
-              by : (c : Bool) → isDimg ≡ c → (ds : List Derivation) → stepped (idsIn u n) w isDimg (base + at) (so .before) content ≡ ok ds → k ≡ targetsIn ds → (d : Derivation) → whole (reference-form (idsIn u n) w isDimg (so .before)) (base + at) content ≡ ok d → pick isDimg (so .before ++ (d ∷ [])) (so .before) ≡ ds → So v end k
+              by : (c : Bool) → isDimg ≡ c → (ds : List Derivation) →
+                  stepped (idsIn u n) w isDimg (base + at) (so .before) content ≡ ok ds → k ≡ targetsIn ds →
+                  (d : Derivation) → whole (reference-form (idsIn u n) w isDimg (so .before)) (base + at) content ≡ ok d
+                  → pick isDimg (so .before ++ (d ∷ [])) (so .before) ≡ ds → So v end k
               by true i ds a c d o p =
                   let z : ds ≡ so .before ++ (d ∷ []) = sym p ∙ rw i in
                   added d (x .stored i d o) (a ∙ ap ok z) (c ∙ ap targetsIn z)

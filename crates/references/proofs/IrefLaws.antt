@@ -28,7 +28,8 @@ use Rattle.references.specs.declared.ReferencesRead.the-variants as read
 
 -- references
 module _ (ids : List ℕ) (p base : ℕ) (s : List ℕ) where
-  references-by : (v g : ℕ) → FullHere (upto 1) p s v g → (w : ℕ) → idBytes v ≡ w → references ids p base s ≡ contain (reference ids w) p (base + 4) [] (drop 4 s)
+  references-by : (v g : ℕ) → FullHere (upto 1) p s v g → (w : ℕ) → idBytes v ≡ w →
+      references ids p base s ≡ contain (reference ids w) p (base + 4) [] (drop 4 s)
   unfolding references
   references-by v g h w e =
       let z : length s - length (drop 4 s) ≡ 4 = rw length-drop (omega (arith, h .room)) in
@@ -47,19 +48,33 @@ module _ (s : List ℕ) (p base n : ℕ) (t : List ℕ) where
   unfolding toldReferences
   tells-gone z e = (
     sym (ap toldReferences (references-gone (idsIn t n) p base s _ _ e)),
-    record { kept = kept-same t; told = λ pl f x ds r o i j. let y : refuse (z .number) (z .place) ≡ ok ds = sym (references-gone (idsOf (f .items)) p base s _ _ e) ∙ i in let no-way : _≡_ {A = ℕ} 0 1 = cc in absurd (omega arith) },
+    record {
+      kept = kept-same t;
+      told = λ pl f x ds r o i j. let y : refuse (z .number) (z .place) ≡ ok ds =
+          sym (references-gone (idsOf (f .items)) p base s _ _ e) ∙ i in let no-way : _≡_ {A = ℕ} 0 1 = cc in
+          absurd (omega arith);
+    },
   )
 
-  pub tells-by : (v g : ℕ) → FullHere (upto 1) p s v g → (w : ℕ) → idBytes v ≡ w → (u : List ℕ) (r : ReferencesRead) → r ≡ toldReferences (contain (reference (idsIn t n) w) p (base + 4) [] (drop 4 s))
+  pub tells-by : (v g : ℕ) → FullHere (upto 1) p s v g → (w : ℕ) → idBytes v ≡ w → (u : List ℕ) (r : ReferencesRead) →
+      r ≡ toldReferences (contain (reference (idsIn t n) w) p (base + 4) [] (drop 4 s))
       → ChildrenLeft (contain (reference (idsIn t n) w) p (base + 4) [] (drop 4 s)) n t u → Tells u r
   tells-by v g h w e u r a left = (
     a ∙ sym (ap toldReferences (references-by (idsIn t n) p base s v g h w e)),
-    record { kept = left .kept; told = λ pl f x ds y o i j. left .told pl f x ds y o (rw (raw-ids pl f x t n (y .count) j) (sym (references-by (idsOf (f .items)) p base s v g h w e) ∙ i)) j },
+    record {
+      kept = left .kept;
+      told = λ pl f x ds y o i j. left .told pl f x ds y o
+          (rw (raw-ids pl f x t n (y .count) j) (sym (references-by (idsOf (f .items)) p base s v g h w e) ∙ i)) j;
+    },
   )
 
 -- what read_references asks of the table, shown from what the stages before it leave
 pub raw-fresh : (pl : Places) (f : File) (x : List ℕ) (n : ℕ) (t : List ℕ) → Ready f n → f .derivations ≡ [] → t ≡ rawOf [] pl f ++ x
     → Distinct (idsIn t n) × ((k : ℕ) → k < n → getD t (16 + 16 * k + 6) 0 ≡ 0)
 unfolding derivedFrom
-raw-fresh pl f x n t r none e =
-    (rw (raw-ids pl f x t n (r .count) e) (r .distinct), λ k h. let c = r .count in rw e (raw-derived [] pl x (omega arith) f k (omega arith) ∙ ap (λ (ds : List Derivation). length (derivedFrom ds (getD (idsOf (f .items)) k 0))) none))
+raw-fresh pl f x n t r none e = (
+  rw (raw-ids pl f x t n (r .count) e) (r .distinct),
+  λ k h. let c = r .count in
+      rw e (raw-derived [] pl x (omega arith) f k (omega arith) ∙
+      ap (λ (ds : List Derivation). length (derivedFrom ds (getD (idsOf (f .items)) k 0))) none),
+)

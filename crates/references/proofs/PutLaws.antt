@@ -49,7 +49,8 @@ never-both b y z = let i : true ≡ false = sym y ∙ z in let j : _≡_ {A = �
 
 -- Put, by what the form gives
 module _ (w : ℕ) (isDimg : Bool) (p : ℕ) (s : List ℕ) (n used : ℕ) (before : List Derivation) (t u : List ℕ) where
-  put-refused : (m q : ℕ) → whole (reference-form (idsIn t n) w isDimg before) p s ≡ refuse m q → Put w isDimg p s n used before t u (read.Refused (record { number = m; place = q }))
+  put-refused : (m q : ℕ) → whole (reference-form (idsIn t n) w isDimg before) p s ≡ refuse m q →
+      Put w isDimg p s n used before t u (read.Refused (record { number = m; place = q }))
   unfolding stepped toldReferences _>>=_
   put-refused m q e =
       record {
@@ -88,7 +89,8 @@ module _ (t : List ℕ) (n w p used : ℕ) (s : List ℕ) (isDimg : Bool) (befor
       second-is : (isDimg && not (eqb (getD t (16 + 16 * row + 6) 0) 0)) ≡ (isDimg && member (beAt s 0 w) (derivedIn before))
       second-is = ap (λ (b : Bool). isDimg && b) (sym (marked row in-rows) ∙ ap (λ (x : ℕ). member x (derivedIn before)) its-id)
 
-      pub put-source-twice : (isDimg && not (eqb (getD t (16 + 16 * row + 6) 0) 0)) ≡ true → (u : List ℕ) → Put w isDimg p s n used before t u (read.Refused (record { number = 10; place = p }))
+      pub put-source-twice : (isDimg && not (eqb (getD t (16 + 16 * row + 6) 0) 0)) ≡ true → (u : List ℕ) →
+          Put w isDimg p s n used before t u (read.Refused (record { number = 10; place = p }))
       put-source-twice y u = put-refused w isDimg p s n used before t u 10 p (source-twice (idsIn t n) w isDimg before p s l listed (sym second-is ∙ y))
 
       pub source-fresh : (isDimg && not (eqb (getD t (16 + 16 * row + 6) 0) 0)) ≡ false → (isDimg && member (beAt s 0 w) (derivedIn before)) ≡ false
@@ -104,14 +106,17 @@ module _ (t : List ℕ) (n w p used : ℕ) (s : List ℕ) (isDimg : Bool) (befor
 
         -- the tests of the count hold
         module _ (some : (isDimg && eqb k 0) ≡ false) (fits : (not isDimg || leb (targetsIn before + k) 2048) ≡ true) where
-          by-targets : (a : Answer (List ℕ)) → itsTargets ≡ a → whole (reference-form (idsIn t n) w isDimg before) p s ≡ (a >>= (λ ts. ok (record { id = beAt s 0 w; targets = ts })))
+          by-targets : (a : Answer (List ℕ)) → itsTargets ≡ a →
+              whole (reference-form (idsIn t n) w isDimg before) p s ≡ (a >>=
+              (λ ts. ok (record { id = beAt s 0 w; targets = ts })))
           by-targets a q = count-targets (idsIn t n) w isDimg before p s l listed fresh h k e some fits ∙ rw q
 
           put-targets-refused : (r : Refusal) → toldTargets itsTargets ≡ targets.Refused r → (u : List ℕ) → Put w isDimg p s n used before t u (read.Refused r)
           unfolding _>>=_
           put-targets-refused r q u = put-refused w isDimg p s n used before t u (r .number) (r .place) (by-targets _ (told-refused itsTargets r q))
 
-          targets-done : (ts : List ℕ) → itsTargets ≡ ok ts → whole (reference-form (idsIn t n) w isDimg before) p s ≡ ok (record { id = beAt s 0 w; targets = ts })
+          targets-done : (ts : List ℕ) → itsTargets ≡ ok ts →
+              whole (reference-form (idsIn t n) w isDimg before) p s ≡ ok (record { id = beAt s 0 w; targets = ts })
           unfolding _>>=_
           targets-done ts q = by-targets (ok ts) q
 
@@ -128,7 +133,8 @@ module _ (t : List ℕ) (n w p used : ℕ) (s : List ℕ) (isDimg : Bool) (befor
         -- a `dimg`
         module _ (y : isDimg ≡ true) where
           pub dimg-none : k ≡ 0 → (u : List ℕ) → Put w isDimg p s n used before t u (read.Refused (record { number = 10; place = p }))
-          dimg-none z u = put-refused w isDimg p s n used before t u 10 p (count-none (idsIn t n) w isDimg before p s l listed fresh h k e (rw (y, eq-eqb k 0 z)))
+          dimg-none z u = put-refused w isDimg p s n used before t u 10 p
+              (count-none (idsIn t n) w isDimg before p s l listed fresh h k e (rw (y, eq-eqb k 0 z)))
 
           module _ (some : k ≡ 0 → ⊥) where
             some-is : (isDimg && eqb k 0) ≡ false
@@ -146,7 +152,9 @@ module _ (t : List ℕ) (n w p used : ℕ) (s : List ℕ) (isDimg : Bool) (befor
               pub dimg-refused : (r : Refusal) → toldTargets itsTargets ≡ targets.Refused r → (u : List ℕ) → Put w isDimg p s n used before t u (read.Refused r)
               dimg-refused r q u = put-targets-refused some-is fits-is r q u
 
-              pub dimg-done : toldTargets itsTargets ≡ targets.Done → (u v : List ℕ) → TargetsLeft itsTargets k true used t u → v ≡ sets u (16 + 16 * row + 5) (used ∷ k ∷ []) → Put w isDimg p s n used before t v (read.Targets (used + k))
+              pub dimg-done : toldTargets itsTargets ≡ targets.Done → (u v : List ℕ) →
+                  TargetsLeft itsTargets k true used t u → v ≡ sets u (16 + 16 * row + 5) (used ∷ k ∷ []) →
+                  Put w isDimg p s n used before t v (read.Targets (used + k))
               unfolding pick
               dimg-done q u v left is =
                   let d = told-done itsTargets q in
@@ -154,12 +162,22 @@ module _ (t : List ℕ) (n w p used : ℕ) (s : List ℕ) (isDimg : Bool) (befor
                   let z = x .0 in
                   rw (← z)
                   (put-stored w isDimg p s n used before t v count _ (targets-done some-is fits-is (d .0) (d .1)) y
-                  (record { row = row; listed = in-rows; its-id = its-id; fresh = dimg-fresh isDimg _ y fresh; some = omega (arith, some); fits = omega arith; is = is ∙ rw (x .1, z) }))
+                  (record {
+                    row = row;
+                    listed = in-rows;
+                    its-id = its-id;
+                    fresh = dimg-fresh isDimg _ y fresh;
+                    some =
+                        omega (arith, some);
+                    fits = omega arith;
+                    is = is ∙ rw (x .1, z);
+                  }))
 
 -- Kept
 pub kept-span : (t u v : List ℕ) (row a b : ℕ) → row < 256 → Kept t u → v ≡ sets u (16 + 16 * row + 5) (a ∷ b ∷ []) → Kept t v
 kept-span t u v row a b h k e = kept-on t u v k (subst (Kept u) (sym e) (kept-sets u (16 + 16 * row + 5) (a ∷ b ∷ []) (omega arith)))
 
 -- what is known of a `dimg` by name holds where the type is known to be `dimg`
-pub as-dimg : (isDimg : Bool) (w p : ℕ) (s : List ℕ) (n used : ℕ) (before : List Derivation) (t u : List ℕ) (r : ReferencesRead) → isDimg ≡ true → Put w true p s n used before t u r → Put w isDimg p s n used before t u r
+pub as-dimg : (isDimg : Bool) (w p : ℕ) (s : List ℕ) (n used : ℕ) (before : List Derivation) (t u : List ℕ)
+    (r : ReferencesRead) → isDimg ≡ true → Put w true p s n used before t u r → Put w isDimg p s n used before t u r
 as-dimg isDimg w p s n used before t u r y x = subst (λ (b : Bool). Put w b p s n used before t u r) (sym y) x

@@ -16,7 +16,8 @@ use Rattle.contents.specs.Iref.{Derivation, derivedIn, targetsIn, target-form, 
 use Rattle.references.specs.Steps.{targetsFrom}
 
 -- a form and then a value made of what it gave, as all of a content
-whole-give : {A B : Type 0} (f : Form A) (g : A → B) (p : ℕ) (r : List ℕ) → reads f p r (λ a t. reads (give (g a)) p t (over p)) ≡ Ans._>>=_ (whole f p r) (λ a. ok (g a))
+whole-give : {A B : Type 0} (f : Form A) (g : A → B) (p : ℕ) (r : List ℕ) →
+    reads f p r (λ a t. reads (give (g a)) p t (over p)) ≡ Ans._>>=_ (whole f p r) (λ a. ok (g a))
 unfolding reads passing give whole finish over Ans._>>=_
 whole-give f g p r = go (f .read p r)
   where
@@ -66,7 +67,8 @@ module _ (ids : List ℕ) (w : ℕ) (isDimg : Bool) (before : List Derivation) w
               (reads-yes p (drop (0 + w) s) 11 _ _ listed
               ∙ rw reads-bind (reads-yes p (drop (0 + w) s) 10 _ _ (ap not fresh) ∙ rw reads-bind (reads-short p s (0 + w) 2 _ (omega arith) (omega arith)))))
 
-          counted : w + 2 ≤ length s → whole (reference-form ids w isDimg before) p s ≡ reads (counted-form (beAt s 0 w) (beAt s (0 + w) 2)) p (drop (0 + w + 2) s) (over p)
+          counted : w + 2 ≤ length s → whole (reference-form ids w isDimg before) p s ≡ reads
+              (counted-form (beAt s 0 w) (beAt s (0 + w) 2)) p (drop (0 + w + 2) s) (over p)
           unfolding reference-form counted-form
           counted h =
               rw (whole-reads, reads-bind)
@@ -89,7 +91,8 @@ module _ (ids : List ℕ) (w : ℕ) (isDimg : Bool) (before : List Derivation) w
               count-over y = behind ∙ rw reads-bind (reads-yes p (drop (w + 2) s) 10 _ _ (ap not some) ∙ rw reads-bind (reads-no p (drop (w + 2) s) 9 _ _ y))
 
               pub count-targets : (not isDimg || leb (targetsIn before + k) 2048) ≡ true
-                  → whole (reference-form ids w isDimg before) p s ≡ Ans._>>=_ (targetsFrom ids w k p s (w + 2)) (λ ts. ok (record { id = beAt s 0 w; targets = ts }))
+                  → whole (reference-form ids w isDimg before) p s ≡ Ans._>>=_ (targetsFrom ids w k p s (w + 2))
+                  (λ ts. ok (record { id = beAt s 0 w; targets = ts }))
               unfolding counted-form
               count-targets y =
                   behind

@@ -20,7 +20,8 @@ use Rattle.references.specs.declared.TargetsPut.the-variants as targets
 
 module _ (n m : ℕ) (few : n ≤ 256) (t v : List ℕ) (rowed : RowedTo n m t v) where
   -- one more target, and the row with its ID
-  pub rowed-more : 7184 + m < length t → m < length v → (row id : ℕ) → row < n → idAt t row ≡ id → RowedTo n (m + 1) (sets t (7184 + m) (id ∷ [])) (sets v m (row ∷ []))
+  pub rowed-more : 7184 + m < length t → m < length v → (row id : ℕ) → row < n → idAt t row ≡ id →
+      RowedTo n (m + 1) (sets t (7184 + m) (id ∷ [])) (sets v m (row ∷ []))
   rowed-more h l row id listed its j i = ⊎-elim (λ e. last j e) (λ b. earlier j b) (eq-or-lt-of-le {n = j} {m = m} (omega arith))
     where
       u : List ℕ
@@ -32,14 +33,18 @@ module _ (n m : ℕ) (few : n ≤ 256) (t v : List ℕ) (rowed : RowedTo n m t v
       last : (j : ℕ) → j ≡ m → (getD x j 0 < n) × (idAt u (getD x j 0) ≡ getD u (7184 + j) 0)
       last j e =
           let r : getD x m 0 ≡ row = getD-set-same v m row 0 l in
-          let q : idAt u row ≡ getD u (7184 + m) 0 = sets-below (id ∷ []) t (7184 + m) (16 + 16 * row) (omega arith) ∙ its ∙ sym (getD-set-same t (7184 + m) id 0 h) in
+          let q : idAt u row ≡ getD u (7184 + m) 0 = sets-below (id ∷ []) t (7184 + m) (16 + 16 * row) (omega arith) ∙
+          its ∙ sym (getD-set-same t (7184 + m) id 0 h) in
           rw e (omega (arith, r), ap (idAt u) r ∙ q)
 
       earlier : (j : ℕ) → j < m → (getD x j 0 < n) × (idAt u (getD x j 0) ≡ getD u (7184 + j) 0)
       earlier j b =
           let r : getD x j 0 ≡ getD v j 0 = sets-below (row ∷ []) v m j b in
-          let k = rowed j b .0 in
-          (omega (arith, r, k), ap (idAt u) r ∙ sets-below (id ∷ []) t (7184 + m) (16 + 16 * getD v j 0) (omega (arith, k)) ∙ rowed j b .1 ∙ sym (sets-below (id ∷ []) t (7184 + m) (7184 + j) (omega arith)))
+          let k = rowed j b .0 in (
+            omega (arith, r, k),
+            ap (idAt u) r ∙ sets-below (id ∷ []) t (7184 + m) (16 + 16 * getD v j 0)
+                (omega (arith, k)) ∙ rowed j b .1 ∙ sym (sets-below (id ∷ []) t (7184 + m) (7184 + j) (omega arith)),
+          )
 
   -- the span of a row is neither an ID nor a target
   pub rowed-span : (row a b : ℕ) → row < 256 → (u : List ℕ) → u ≡ sets t (16 + 16 * row + 5) (a ∷ b ∷ []) → RowedTo n m u v
@@ -47,8 +52,16 @@ module _ (n m : ℕ) (few : n ≤ 256) (t v : List ℕ) (rowed : RowedTo n m t v
       let k = rowed j i .0 in
       let s : List ℕ = a ∷ b ∷ [] in
       let q : idAt (sets t (16 + 16 * row + 5) s) (getD v j 0) ≡ idAt t (getD v j 0) =
-      elim (decLe (getD v j 0) row) [ yes l ↦ sets-below s t (16 + 16 * row + 5) (16 + 16 * getD v j 0) (omega (arith, l)) | no l ↦ sets-above s t (16 + 16 * row + 5) (16 + 16 * getD v j 0) (omega (arith, l)) ] in
-      (k, ap (λ (l : List ℕ). idAt l (getD v j 0)) e ∙ q ∙ rowed j i .1 ∙ sym (sets-above s t (16 + 16 * row + 5) (7184 + j) (omega arith)) ∙ ap (λ (l : List ℕ). getD l (7184 + j) 0) (sym e))
+      elim (decLe (getD v j 0) row) [
+        | yes l ↦ sets-below s t (16 + 16 * row + 5) (16 + 16 * getD v j 0)
+            (omega (arith, l))
+        | no l ↦ sets-above s t (16 + 16 * row + 5) (16 + 16 * getD v j 0) (omega (arith, l))
+      ] in (
+        k,
+        ap (λ (l : List ℕ). idAt l (getD v j 0)) e ∙ q ∙ rowed j i .1 ∙
+            sym (sets-above s t (16 + 16 * row + 5) (7184 + j) (omega arith)) ∙
+            ap (λ (l : List ℕ). getD l (7184 + j) 0) (sym e),
+      )
 
 -- what the loop over the targets of a reference keeps of the rows: j targets are read into the table u and the rows x, which were t and v
 pub record Beside (n used : ℕ) (keep : Bool) (t v : List ℕ) (j : ℕ) (u x : List ℕ) : Type 0 where
@@ -61,7 +74,10 @@ module _ (n used : ℕ) (keep : Bool) (t v : List ℕ) where
   beside-none = record { long = refl; other = λ e. refl; rowed = λ e r i h. r i (omega arith) }
 
   module _ (j : ℕ) (u x : List ℕ) (so : Beside n used keep t v j u x) where
-    pub beside-more : n ≤ 256 → 11280 ≤ length u → 2048 ≤ length v → (keep ≡ true → used + j < 2048) → (id : ℕ) (row : ItemRow) → FoundIs u n id (At row) → (u′ x′ : List ℕ) → u′ ≡ sets u (7184 + used + j) (pick keep (id ∷ []) []) → x′ ≡ sets x (used + j) (pick keep (row .0 ∷ []) []) → Beside n used keep t v (j + 1) u′ x′
+    pub beside-more : n ≤ 256 → 11280 ≤ length u → 2048 ≤ length v → (keep ≡ true → used + j < 2048) →
+        (id : ℕ) (row : ItemRow) → FoundIs u n id (At row) → (u′ x′ : List ℕ) →
+        u′ ≡ sets u (7184 + used + j) (pick keep (id ∷ []) []) → x′ ≡ sets x (used + j) (pick keep (row .0 ∷ []) []) →
+        Beside n used keep t v (j + 1) u′ x′
     unfolding pick
     beside-more few room wide fits id row g u′ x′ e q =
         record {
@@ -79,7 +95,8 @@ module _ (n used : ℕ) (keep : Bool) (t v : List ℕ) where
             rw (f, p) (rowed-more n (used + j) few u x r (omega arith) (omega arith) (row .0) id (g .0) (g .1) i (omega arith))
 
     -- what the code promises of the rows: a refusal promises nothing more than the other references
-    pub beside-refused : (k : ℕ) (z : Refusal) → (keep ≡ false → x ≡ v) × (keep ≡ true → targets.Refused z ≡ targets.Done → RowedTo n used t v → RowedTo n (used + k) u x)
+    pub beside-refused : (k : ℕ) (z : Refusal) → (keep ≡ false → x ≡ v) ×
+        (keep ≡ true → targets.Refused z ≡ targets.Done → RowedTo n used t v → RowedTo n (used + k) u x)
     beside-refused k z = (so .other, λ y e. let no-way : _≡_ {A = ℕ} 0 1 = cc in absurd (omega arith))
 
     pub beside-done : (k : ℕ) → k ≤ j → (keep ≡ false → x ≡ v) × (keep ≡ true → targets.Done ≡ targets.Done → RowedTo n used t v → RowedTo n (used + k) u x)
@@ -97,7 +114,9 @@ pub rowed-passed : (n used : ℕ) (t u v x : List ℕ) → u ≡ t → x ≡ v �
 rowed-passed n used t u v x e q m i r = rowed-as n used m u x i (rw (e, q) r)
 
 -- a `dimg`: its targets, whose rows are beside them in the table u, then its span
-pub rowed-stored : (n used k row : ℕ) → n ≤ 256 → row < 256 → (t u w v x : List ℕ) → w ≡ sets u (16 + 16 * row + 5) (used ∷ k ∷ []) → (RowedTo n used t v → RowedTo n (used + k) u x) → (m : ℕ) → read.Targets (used + k) ≡ read.Targets m → RowedTo n used t v → RowedTo n m w x
+pub rowed-stored : (n used k row : ℕ) → n ≤ 256 → row < 256 → (t u w v x : List ℕ) →
+    w ≡ sets u (16 + 16 * row + 5) (used ∷ k ∷ []) → (RowedTo n used t v → RowedTo n (used + k) u x) → (m : ℕ) →
+    read.Targets (used + k) ≡ read.Targets m → RowedTo n used t v → RowedTo n m w x
 rowed-stored n used k row few h t u w v x e f m i r = rowed-as n (used + k) m w x i (rowed-span n (used + k) few u x (f r) row used k h w e)
 
 -- what the loop over the references keeps of the rows, which were v

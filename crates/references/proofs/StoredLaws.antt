@@ -29,7 +29,8 @@ use Rattle.references.specs.Steps.{Marked, Stored}
 pub sets-two : (t : List ℕ) (a b x y : ℕ) → a ≡ b → set (set t (a + 5) x) (a + 6) y ≡ sets t (b + 5) (x ∷ y ∷ [])
 sets-two t a b x y e = let z : b + 6 ≡ suc (b + 5) = omega arith in rw (e, z)
 
-module _ (n used : ℕ) (before : List Derivation) (d : Derivation) (t u : List ℕ) (few : n ≤ 256) (room : 11280 ≤ length t) (x : Stored n used before d t u) where
+module _ (n used : ℕ) (before : List Derivation) (d : Derivation) (t u : List ℕ) (few : n ≤ 256)
+    (room : 11280 ≤ length t) (x : Stored n used before d t u) where
   abbrev targets-in : List ℕ
   targets-in = sets t (7184 + used) (d .targets)
 
@@ -38,10 +39,14 @@ module _ (n used : ℕ) (before : List Derivation) (d : Derivation) (t u : List 
 
   -- a word before the row's span, and one past it
   word-below : (i : ℕ) → i < 16 + 16 * x .row + 5 → i < 7184 → getD u i 0 ≡ getD t i 0
-  word-below i h l = ap (λ (v : List ℕ). getD v i 0) (x .is) ∙ sets-below its-span targets-in (16 + 16 * x .row + 5) i h ∙ sets-below (d .targets) t (7184 + used) i (omega arith)
+  word-below i h l = ap (λ (v : List ℕ). getD v i 0) (x .is) ∙
+      sets-below its-span targets-in (16 + 16 * x .row + 5) i h ∙
+      sets-below (d .targets) t (7184 + used) i (omega arith)
 
   word-above : (i : ℕ) → 16 + 16 * x .row + 7 ≤ i → i < 7184 → getD u i 0 ≡ getD t i 0
-  word-above i h l = ap (λ (v : List ℕ). getD v i 0) (x .is) ∙ sets-above its-span targets-in (16 + 16 * x .row + 5) i (omega arith) ∙ sets-below (d .targets) t (7184 + used) i (omega arith)
+  word-above i h l = ap (λ (v : List ℕ). getD v i 0) (x .is) ∙
+      sets-above its-span targets-in (16 + 16 * x .row + 5) i (omega arith) ∙
+      sets-below (d .targets) t (7184 + used) i (omega arith)
 
   -- the row's count
   word-count : getD u (16 + 16 * x .row + 6) 0 ≡ length (d .targets)
@@ -53,7 +58,11 @@ module _ (n used : ℕ) (before : List Derivation) (d : Derivation) (t u : List 
       ∙ sets-in its-span targets-in (16 + 16 * x .row + 5) 1 (omega arith) (rw (length-sets t (7184 + used) (d .targets)) (omega arith))
 
   pub stored-ids : (k : ℕ) → k < n → idAt u k ≡ idAt t k
-  stored-ids k h = elim (decLe k (x .row)) [ yes l ↦ word-below (16 + 16 * k) (omega arith) (omega arith) | no l ↦ word-above (16 + 16 * k) (omega (arith, l)) (omega arith) ]
+  stored-ids k h = elim (decLe k (x .row)) [
+    | yes l ↦ word-below (16 + 16 * k) (omega arith) (omega arith)
+    | no l ↦
+        word-above (16 + 16 * k) (omega (arith, l)) (omega arith)
+  ]
 
   module _ (distinct : Distinct (idsIn t n)) (marked : Marked t n before) where
     grown-in : derivedIn (before ++ (d ∷ [])) ≡ derivedIn before ++ (d .id ∷ [])
@@ -62,12 +71,20 @@ module _ (n used : ℕ) (before : List Derivation) (d : Derivation) (t u : List 
     mark-here : (k : ℕ) → k ≡ x .row → member (idAt u k) (derivedIn (before ++ (d ∷ []))) ≡ not (eqb (getD u (16 + 16 * k + 6) 0) 0)
     mark-here k e =
         let s = x .some in
-        rw (e, grown-in, stored-ids (x .row) (x .listed) ∙ x .its-id, word-count, ne-eqb (length (d .targets)) 0 (omega arith)) (member-last (d .id) (derivedIn before))
+        rw (
+          e,
+          grown-in,
+          stored-ids (x .row) (x .listed) ∙ x .its-id,
+          word-count,
+          ne-eqb (length (d .targets)) 0 (omega arith),
+        ) (member-last (d .id) (derivedIn before))
 
-    mark-other : (k : ℕ) → k < n → (k ≡ x .row → ⊥) → getD u (16 + 16 * k + 6) 0 ≡ getD t (16 + 16 * k + 6) 0 → member (idAt u k) (derivedIn (before ++ (d ∷ []))) ≡ not (eqb (getD u (16 + 16 * k + 6) 0) 0)
+    mark-other : (k : ℕ) → k < n → (k ≡ x .row → ⊥) → getD u (16 + 16 * k + 6) 0 ≡ getD t (16 + 16 * k + 6) 0 →
+        member (idAt u k) (derivedIn (before ++ (d ∷ []))) ≡ not (eqb (getD u (16 + 16 * k + 6) 0) 0)
     mark-other k h apart e =
         rw (grown-in, stored-ids k h, e)
-        (member-other (idAt t k) (d .id) (derivedIn before) (λ q. apart (distinct-rows t n distinct k (x .row) h (x .listed) (q ∙ sym (x .its-id)))) ∙ marked k h)
+        (member-other (idAt t k) (d .id) (derivedIn before) (λ q. apart
+        (distinct-rows t n distinct k (x .row) h (x .listed) (q ∙ sym (x .its-id)))) ∙ marked k h)
 
     pub stored-marked : Marked u n (before ++ (d ∷ []))
     stored-marked k h =
@@ -81,16 +98,25 @@ module _ (n used : ℕ) (before : List Derivation) (d : Derivation) (t u : List 
 
   -- the table of a file
   module _ (count : used ≡ targetsIn before) where
-    pub stored-raw : (pl : Places) (f : File) (y : List ℕ) → Ready f n → t ≡ rawOf [] pl (withDerivations f before) ++ y → u ≡ rawOf [] pl (withDerivations f (before ++ (d ∷ []))) ++ y
+    pub stored-raw : (pl : Places) (f : File) (y : List ℕ) → Ready f n → t ≡ rawOf [] pl (withDerivations f before) ++
+        y → u ≡ rawOf [] pl (withDerivations f (before ++ (d ∷ []))) ++ y
     stored-raw pl f y r e =
         let b = r .bounded in
         let z = x .fits in
         let l = x .listed in
         let h : x .row < length (f .items) = omega (arith, r .count) in
-        let bounded : Bounded (withDerivations f before) = record { few-items = b .few-items; few-extents = b .few-extents; few-properties = b .few-properties; few-associations = b .few-associations; few-targets = omega arith } in
+        let bounded : Bounded (withDerivations f before) =
+        record {
+          few-items = b .few-items;
+          few-extents = b .few-extents;
+          few-properties = b .few-properties;
+          few-associations = b .few-associations;
+          few-targets = omega arith;
+        } in
         let i : getD (idsOf (f .items)) (x .row) 0 ≡ d .id =
         sym (raw-id [] pl y (omega arith) (withDerivations f before) (x .row) h) ∙ ap (λ (v : List ℕ). idAt v (x .row)) (sym e) ∙ x .its-id in
-        let p : pick (eqb (length (d .targets)) 0) 0 (targetsIn before) ≡ targetsIn before = pick-no 0 (targetsIn before) (ne-eqb (length (d .targets)) 0 (omega (arith, x .some))) in
+        let p : pick (eqb (length (d .targets)) 0) 0 (targetsIn before) ≡ targetsIn before =
+        pick-no 0 (targetsIn before) (ne-eqb (length (d .targets)) 0 (omega (arith, x .some))) in
         let raw : List ℕ = rawOf [] pl (withDerivations f before) ++ y in
         x .is
         ∙ ap (λ (v : List ℕ). sets (sets v (7184 + used) (d .targets)) (16 + 16 * x .row + 5) (used ∷ length (d .targets) ∷ [])) e

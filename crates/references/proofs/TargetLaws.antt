@@ -12,7 +12,21 @@ use Rattle.fields.specs.Lists.{member}
 use Rattle.boxes.specs.Answer.{Answer, ok, refuse}
 use Rattle.boxes.proofs.AnswerLaws.{ok-inj}
 use Rattle.forms.specs.Form.{many}
-use Rattle.forms.proofs.StepLaws.{reads, over, whole-reads, reads-bind, reads-field, reads-short, reads-yes, reads-no, reads-give, reads-none, reads-more, over-end, over-left}
+use Rattle.forms.proofs.StepLaws.{
+  reads,
+  over,
+  whole-reads,
+  reads-bind,
+  reads-field,
+  reads-short,
+  reads-yes,
+  reads-no,
+  reads-give,
+  reads-none,
+  reads-more,
+  over-end,
+  over-left,
+}
 use Rattle.contents.specs.Iref.{target-form}
 use Rattle.records.specs.Rows.{idAt, idsIn, FoundIs}
 use Rattle.records.specs.Stage.{Kept}
@@ -64,7 +78,8 @@ module _ (ids : List ℕ) (w p : ℕ) (s : List ℕ) where
     target-end h = reads-none (target-form ids w) p (drop at s) (over p) ts ∙ over-end p ts s at h
 
 -- the stores of kept targets
-kept-room : (keep : Bool) (ts : List ℕ) (used k : ℕ) → used ≤ 2048 → (keep ≡ true → used + k ≤ 2048) → length ts ≤ k → 7184 + used + length (pick keep ts []) ≤ 11280
+kept-room : (keep : Bool) (ts : List ℕ) (used k : ℕ) → used ≤ 2048 → (keep ≡ true → used + k ≤ 2048) → length ts ≤ k →
+    7184 + used + length (pick keep ts []) ≤ 11280
 unfolding pick
 kept-room true ts used k a b h = let e = b refl in omega arith
 kept-room false ts used k a b h = omega arith
@@ -74,7 +89,8 @@ unfolding pick
 kept-none true t i = refl
 kept-none false t i = refl
 
-kept-more : (keep : Bool) (t : List ℕ) (i j id : ℕ) (ts : List ℕ) → length ts ≡ j → sets (sets t i (pick keep ts [])) (i + j) (pick keep (id ∷ []) []) ≡ sets t i (pick keep (ts ++ (id ∷ [])) [])
+kept-more : (keep : Bool) (t : List ℕ) (i j id : ℕ) (ts : List ℕ) → length ts ≡ j →
+    sets (sets t i (pick keep ts [])) (i + j) (pick keep (id ∷ []) []) ≡ sets t i (pick keep (ts ++ (id ∷ [])) [])
 unfolding pick
 kept-more true t i j id ts e = rw (← e) (sym (sets-append ts (id ∷ []) t i))
 kept-more false t i j id ts e = refl
@@ -96,7 +112,16 @@ module _ (s : List ℕ) (from w k p n : ℕ) (keep : Bool) (used : ℕ) (t : Lis
   pub begin : from ≤ length s → So t from 0
   begin h =
       let z : k ≡ k - 0 = omega arith in
-      record { ts = []; count = refl; upto = omega arith; here = h; same = whole-reads (many (target-form (idsIn t n) w) k []) p (drop from s) ∙ ap (λ (m : ℕ). left (idsIn t n) w p s m from []) z; stored = sym (kept-none keep t (7184 + used)) }
+      record {
+        ts = [];
+        count = refl;
+        upto = omega arith;
+        here = h;
+        same =
+            whole-reads (many (target-form (idsIn t n) w) k []) p (drop from s) ∙
+            ap (λ (m : ℕ). left (idsIn t n) w p s m from []) z;
+        stored = sym (kept-none keep t (7184 + used));
+      }
 
   -- what the code returns, u being the table
   abbrev pub Tells : List ℕ → TargetsPut → Type 0
@@ -107,7 +132,9 @@ module _ (s : List ℕ) (from w k p n : ℕ) (keep : Bool) (used : ℕ) (t : Lis
     so-length = ap length (so .stored) ∙ length-sets t (7184 + used) (pick keep (so .ts) [])
 
     so-kept : Kept t u
-    so-kept = let c = so .count in let m = so .upto in subst (Kept t) (sym (so .stored)) (kept-sets t (7184 + used) (pick keep (so .ts) []) (kept-room keep (so .ts) used k room fits (omega arith)))
+    so-kept = let c = so .count in let m = so .upto in
+        subst (Kept t) (sym (so .stored)) (kept-sets t (7184 + used) (pick keep (so .ts) [])
+        (kept-room keep (so .ts) used k room fits (omega arith)))
 
     so-ids : (i : ℕ) → i < n → idAt u i ≡ idAt t i
     so-ids i h = ap (λ (l : List ℕ). idAt l i) (so .stored) ∙ sets-below (pick keep (so .ts) []) t (7184 + used) (16 + 16 * i) (omega arith)
@@ -117,7 +144,13 @@ module _ (s : List ℕ) (from w k p n : ℕ) (keep : Bool) (used : ℕ) (t : Lis
     refuses m e =
         let a = so .same ∙ e in (
           sym (ap toldTargets a),
-          record { kept = so-kept; other = λ q. so .stored ∙ kept-not keep t (7184 + used) (so .ts) q; told = λ ts o. let z : _≡_ {A = ℕ} 0 1 = (let y : refuse m p ≡ ok ts = sym a ∙ o in cc) in absurd (omega arith) },
+          record {
+            kept = so-kept;
+            other = λ q. so .stored ∙ kept-not keep t (7184 + used) (so .ts) q;
+            told =
+                λ ts o. let z : _≡_ {A = ℕ} 0 1 = (let y : refuse m p ≡ ok ts = sym a ∙ o in cc) in
+                absurd (omega arith);
+          },
         )
 
     -- one target is still to come

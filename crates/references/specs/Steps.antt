@@ -62,4 +62,5 @@ pub record Put (w : ℕ) (isDimg : Bool) (p : ℕ) (s : List ℕ) (n used : ℕ)
 
 pub record ChildrenLeft (a : Answer (List Derivation)) (n : ℕ) (t u : List ℕ) : Type 0 where
   pub kept : Kept t u
-  pub told : (pl : Places) (f : File) (x : List ℕ) (ds : List Derivation) → Ready f n → f .derivations ≡ [] → a ≡ ok ds → t ≡ rawOf [] pl f ++ x → u ≡ rawOf [] pl (withDerivations f ds) ++ x
+  pub told : (pl : Places) (f : File) (x : List ℕ) (ds : List Derivation) → Ready f n → f .derivations ≡ [] →
+      a ≡ ok ds → t ≡ rawOf [] pl f ++ x → u ≡ rawOf [] pl (withDerivations f ds) ++ x

@@ -20,4 +20,6 @@ toldReferences (refuse n p) = read.Refused (record { number = n; place = p })
 
 pub record ReferencesLeft (s : List ℕ) (place base n : ℕ) (t u : List ℕ) : Type 0 where
   pub kept : Kept t u
-  pub told : (pl : Places) (f : File) (x : List ℕ) (ds : List Derivation) → Ready f n → f .derivations ≡ [] → references (idsOf (f .items)) place base s ≡ ok ds → t ≡ rawOf [] pl f ++ x → u ≡ rawOf [] pl (withDerivations f ds) ++ x
+  pub told : (pl : Places) (f : File) (x : List ℕ) (ds : List Derivation) → Ready f n → f .derivations ≡ [] →
+      references (idsOf (f .items)) place base s ≡ ok ds → t ≡ rawOf [] pl f ++ x →
+      u ≡ rawOf [] pl (withDerivations f ds) ++ x

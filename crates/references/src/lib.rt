@@ -66,10 +66,14 @@ fn put_targets(
     keep: bool,
     used: usize,
 ) -> TargetsPut
-    requires { ⌜ (11280 ≤ length (now table)) × (2048 ≤ length (now rows)) × (n ≤ 256) × (from ≤ length (now s)) × ((w ≡ 2) ⊎ (w ≡ 4)) × (used ≤ 2048) × (keep ≡ true → used + k ≤ 2048) ⌝ }
+    requires { ⌜ (11280 ≤ length (now table)) × (2048 ≤ length (now rows)) × (n ≤ 256) × (from ≤ length (now s)) ×
+        ((w ≡ 2) ⊎ (w ≡ 4)) × (used ≤ 2048) × (keep ≡ true → used + k ≤ 2048) ⌝ }
     ensures { λ r. ⌜ r ≡ toldTargets (targetsFrom (idsIn (now (table .entry)) n) w k place (now (s .entry)) from) ⌝ }
-    ensures { λ _. ⌜ TargetsLeft (targetsFrom (idsIn (now (table .entry)) n) w k place (now (s .entry)) from) k keep used (now (table .entry)) (now (table .exit)) ⌝ }
-    ensures { λ r. ⌜ (keep ≡ false → now (rows .exit) ≡ now (rows .entry)) × (keep ≡ true → r ≡ Done → RowedTo n used (now (table .entry)) (now (rows .entry)) → RowedTo n (used + k) (now (table .exit)) (now (rows .exit))) ⌝ }
+    ensures { λ _. ⌜ TargetsLeft (targetsFrom (idsIn (now (table .entry)) n) w k place (now (s .entry)) from) k keep
+        used (now (table .entry)) (now (table .exit)) ⌝ }
+    ensures { λ r. ⌜ (keep ≡ false → now (rows .exit) ≡ now (rows .entry)) ×
+        (keep ≡ true → r ≡ Done → RowedTo n used (now (table .entry)) (now (rows .entry)) →
+        RowedTo n (used + k) (now (table .exit)) (now (rows .exit))) ⌝ }
 {
     let mut at = from;
     let mut hope: usize = 0;
@@ -135,8 +139,10 @@ fn put_reference(
 ) -> ReferencesRead
     requires { ⌜ (11280 ≤ length (now table)) × (2048 ≤ length (now rows)) × (n ≤ 256) × ((w ≡ 2) ⊎ (w ≡ 4)) × (used ≤ 2048) ⌝ }
     ensures { λ _. ⌜ Kept (now (table .entry)) (now (table .exit)) × (derives ≡ false → now (table .exit) ≡ now (table .entry)) ⌝ }
-    ensures { λ r. ⌜ ((before : List Derivation) → used ≡ targetsIn before → Marked (now (table .entry)) n before → Put w derives place (now (s .entry)) n used before (now (table .entry)) (now (table .exit)) r) ⌝ }
-    ensures { λ r. ⌜ ((m : ℕ) → r ≡ Targets m → RowedTo n used (now (table .entry)) (now (rows .entry)) → RowedTo n m (now (table .exit)) (now (rows .exit))) ⌝ }
+    ensures { λ r. ⌜ ((before : List Derivation) → used ≡ targetsIn before → Marked (now (table .entry)) n before →
+        Put w derives place (now (s .entry)) n used before (now (table .entry)) (now (table .exit)) r) ⌝ }
+    ensures { λ r. ⌜ ((m : ℕ) → r ≡ Targets m → RowedTo n used (now (table .entry)) (now (rows .entry)) →
+        RowedTo n m (now (table .exit)) (now (rows .exit))) ⌝ }
 {
     if s.len() < w {
         return ReferencesRead::Refused(Refusal { number: 8, place });
@@ -175,8 +181,11 @@ fn put_counted(
     requires { ⌜ (11280 ≤ length (now table)) × (2048 ≤ length (now rows)) × (n ≤ 256) × ((w ≡ 2) ⊎ (w ≡ 4)) × (used ≤ 2048) ⌝ }
     requires { ⌜ (w ≤ length (now s)) × (row .0 < n) × (idAt (now table) (row .0) ≡ beAt (now s) 0 w) ⌝ }
     ensures { λ _. ⌜ Kept (now (table .entry)) (now (table .exit)) × (derives ≡ false → now (table .exit) ≡ now (table .entry)) ⌝ }
-    ensures { λ r. ⌜ ((before : List Derivation) → used ≡ targetsIn before → (derives && member (beAt (now (s .entry)) 0 w) (derivedIn before)) ≡ false → Put w derives place (now (s .entry)) n used before (now (table .entry)) (now (table .exit)) r) ⌝ }
-    ensures { λ r. ⌜ ((m : ℕ) → r ≡ Targets m → RowedTo n used (now (table .entry)) (now (rows .entry)) → RowedTo n m (now (table .exit)) (now (rows .exit))) ⌝ }
+    ensures { λ r. ⌜ ((before : List Derivation) → used ≡ targetsIn before →
+        (derives && member (beAt (now (s .entry)) 0 w) (derivedIn before)) ≡ false →
+        Put w derives place (now (s .entry)) n used before (now (table .entry)) (now (table .exit)) r) ⌝ }
+    ensures { λ r. ⌜ ((m : ℕ) → r ≡ Targets m → RowedTo n used (now (table .entry)) (now (rows .entry)) →
+        RowedTo n m (now (table .exit)) (now (rows .exit))) ⌝ }
 {
     if s.len() < w + 2 {
         return ReferencesRead::Refused(Refusal { number: 8, place });
@@ -208,8 +217,11 @@ fn put_derivation(
     requires { ⌜ (11280 ≤ length (now table)) × (2048 ≤ length (now rows)) × (n ≤ 256) × ((w ≡ 2) ⊎ (w ≡ 4)) × (used ≤ 2048) ⌝ }
     requires { ⌜ (w + 2 ≤ length (now s)) × (row .0 < n) × (idAt (now table) (row .0) ≡ beAt (now s) 0 w) × (k ≡ beAt (now s) w 2) × (k < 65536) ⌝ }
     ensures { λ _. ⌜ Kept (now (table .entry)) (now (table .exit)) ⌝ }
-    ensures { λ r. ⌜ ((before : List Derivation) → used ≡ targetsIn before → member (beAt (now (s .entry)) 0 w) (derivedIn before) ≡ false → Put w true place (now (s .entry)) n used before (now (table .entry)) (now (table .exit)) r) ⌝ }
-    ensures { λ r. ⌜ ((m : ℕ) → r ≡ Targets m → RowedTo n used (now (table .entry)) (now (rows .entry)) → RowedTo n m (now (table .exit)) (now (rows .exit))) ⌝ }
+    ensures { λ r. ⌜ ((before : List Derivation) → used ≡ targetsIn before →
+        member (beAt (now (s .entry)) 0 w) (derivedIn before) ≡ false →
+        Put w true place (now (s .entry)) n used before (now (table .entry)) (now (table .exit)) r) ⌝ }
+    ensures { λ r. ⌜ ((m : ℕ) → r ≡ Targets m → RowedTo n used (now (table .entry)) (now (rows .entry)) →
+        RowedTo n m (now (table .exit)) (now (rows .exit))) ⌝ }
 {
     if k == 0 {
         return ReferencesRead::Refused(Refusal { number: 10, place });
@@ -247,10 +259,12 @@ fn put_references(
     n: usize,
     slots: &[u32],
 ) -> ReferencesRead
-    requires { ⌜ (11280 ≤ length (now table)) × (2048 ≤ length (now rows)) × (n ≤ 256) × (base + length (now s) < 18446744073709551616) × (4 ≤ length (now s)) × ((w ≡ 2) ⊎ (w ≡ 4)) ⌝ }
+    requires { ⌜ (11280 ≤ length (now table)) × (2048 ≤ length (now rows)) × (n ≤ 256) ×
+        (base + length (now s) < 18446744073709551616) × (4 ≤ length (now s)) × ((w ≡ 2) ⊎ (w ≡ 4)) ⌝ }
     requires { ⌜ Distinct (idsIn (now table) n) × ((k : ℕ) → k < n → getD (now table) (16 + 16 * k + 6) 0 ≡ 0) ⌝ }
     ensures { λ r. ⌜ r ≡ toldReferences (contain (reference (idsIn (now (table .entry)) n) w) place (base + 4) [] (drop 4 (now (s .entry)))) ⌝ }
-    ensures { λ _. ⌜ ChildrenLeft (contain (reference (idsIn (now (table .entry)) n) w) place (base + 4) [] (drop 4 (now (s .entry)))) n (now (table .entry)) (now (table .exit)) ⌝ }
+    ensures { λ _. ⌜ ChildrenLeft (contain (reference (idsIn (now (table .entry)) n) w) place (base + 4) []
+        (drop 4 (now (s .entry)))) n (now (table .entry)) (now (table .exit)) ⌝ }
     ensures { λ r. ⌜ ((m : ℕ) → r ≡ Targets m → RowedTo n m (now (table .exit)) (now (rows .exit))) ⌝ }
 {
     let mut at: usize = 4;

@@ -107,8 +107,10 @@ module _ (total : ℕ) (head : List ℕ) (f : File) (item : Item) where
       let z = nothing-in ins (check-ok 17 _ _ (x .0) (x .1)) in
       (subst Fed (sym (pick-yes _ _ (is-coded d)) ∙ ok-inj _ r (x .2)) z, subst (Images f) (sym z) tt))
     where
-      by-type : pick (eqb (item .type) iden) (copyOf total head f item) (pick (eqb (item .type) grid) (tilesOf total head f item) (layersOf total head f item)) ≡ ok r → Fed r
-      by-type = both (λ (m : Answer Recipe). m ≡ ok r → Fed r) _ _ _ (λ q. copy-fed r) (λ q. both (λ (m : Answer Recipe). m ≡ ok r → Fed r) _ _ _ (λ q. tiles-fed r) (λ q. layers-fed r))
+      by-type : pick (eqb (item .type) iden) (copyOf total head f item)
+          (pick (eqb (item .type) grid) (tilesOf total head f item) (layersOf total head f item)) ≡ ok r → Fed r
+      by-type = both (λ (m : Answer Recipe). m ≡ ok r → Fed r) _ _ _ (λ q. copy-fed r)
+          (λ q. both (λ (m : Answer Recipe). m ≡ ok r → Fed r) _ _ _ (λ q. tiles-fed r) (λ q. layers-fed r))
 
       is-coded : derived (item .type) ≡ false → coded (item .type) ≡ true
       is-coded d = ⊎-elim (λ h. h) (λ h. untrue (sym d ∙ h)) (or-either (coded (item .type)) (derived (item .type)) i)
@@ -119,5 +121,6 @@ unfolding asRule17
 rule-17-ok id (ok x) r e = e
 rule-17-ok id (refuse n p) r e = let z : _≡_ {A = ℕ} 0 1 = cc in absurd (omega arith)
 
-pub recipe-fed : (total : ℕ) (head : List ℕ) (f : File) (item : Item) → image (item .type) ≡ true → (r : Recipe) → recipeOf total head f item ≡ ok r → Shaped r (targetsOf f (item .id)) × Images f (targetsOf f (item .id))
+pub recipe-fed : (total : ℕ) (head : List ℕ) (f : File) (item : Item) → image (item .type) ≡ true → (r : Recipe) →
+    recipeOf total head f item ≡ ok r → Shaped r (targetsOf f (item .id)) × Images f (targetsOf f (item .id))
 recipe-fed total head f item i r e = recipe-for total head f item i r (rule-17-ok (item .id) (recipeFor total head f item) r e)

@@ -2,3 +2,4 @@ pub mod RuleLaws
 pub mod DerivationLaws
 pub mod SceneLaws
 pub mod ListedLaws
+pub mod SameSayLaws

@@ -33,7 +33,8 @@ module _ (ids : List ℕ) where
   target-told bytes before u t h = subst (λ (t : ℕ). member t ids ≡ true) (sym (h .then .then .1)) (h .then .first .1)
 
   -- reference-form
-  reference-told : (bytes : ℕ) (isDimg : Bool) (before : List Derivation) (u : List ℕ) (d : Derivation) → reference-form ids bytes isDimg before .Spells u d → Told ids d
+  reference-told : (bytes : ℕ) (isDimg : Bool) (before : List Derivation) (u : List ℕ) (d : Derivation) →
+      reference-form ids bytes isDimg before .Spells u d → Told ids d
   unfolding reference-form _>>=_ give
   reference-told bytes isDimg before u d h =
       let w = h .then .then .then .then .then .then in
@@ -43,9 +44,11 @@ module _ (ids : List ℕ) where
   step-told : (bytes : ℕ) (before after : List Derivation) (b : List ℕ) → ReferenceStep ids bytes before b after → All (Told ids) before → All (Told ids) after
   step-told bytes before after b h a =
       subst (All (Told ids)) (sym (h .kept))
-      (both (All (Told ids)) _ _ _ (λ e. all-snoc (Told ids) before (h .value) a (reference-told bytes (eqb (kindOf b) dimg) before _ (h .value) (h .spells))) (λ e. a))
+      (both (All (Told ids)) _ _ _ (λ e. all-snoc (Told ids) before (h .value) a
+      (reference-told bytes (eqb (kindOf b) dimg) before _ (h .value) (h .spells))) (λ e. a))
 
-  through-told : (bytes : ℕ) (bs : List (List ℕ)) (before after : List Derivation) → Through (ReferenceStep ids bytes) before bs after → All (Told ids) before → All (Told ids) after
+  through-told : (bytes : ℕ) (bs : List (List ℕ)) (before after : List Derivation) →
+      Through (ReferenceStep ids bytes) before bs after → All (Told ids) before → All (Told ids) after
   through-told bytes [] before after h a = subst (All (Told ids)) h a
   through-told bytes (b ∷ bs) before after h a = through-told bytes bs (h .0) after (h .2) (step-told bytes before (h .0) b (h .1) a)
 

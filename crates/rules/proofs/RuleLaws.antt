@@ -2,26 +2,43 @@
 use Prim.Native.Nat.{ℕ, zero, suc, _+_, _<_}
 use native.Mathlib.Nat.{add-zero, zero-add}
 use native.Mathlib.Omega.{arith}
-use mathlib.Core.Path.{_≡_}
+use mathlib.Core.Path.{_≡_, refl, _∙_, subst}
 use mathlib.Core.List.{List, [], _∷_}
 use lib.ListN.{length, getD}
+use Rattle.fields.specs.Lists.{All}
 use Rattle.boxes.specs.Answer.{Answer, ok}
-use Rattle.boxes.proofs.AnswerLaws.{then-ok}
+use Rattle.boxes.proofs.AnswerLaws.{bind-ok, ok-bind, then-ok, ok-then, ok-inj}
 use Rattle.contents.specs.Iinf.{Item}
-use Rattle.contents.specs.File.{File}
+use Rattle.contents.specs.File.{File, readFile}
 use Rattle.pictures.specs.Scene.{Scene}
 use Rattle.rules.specs.Joined.{noItem, itemAt}
 use Rattle.rules.specs.Derivations.{sceneOf}
 use Rattle.rules.specs.Rules.{inOrder, rule12, rule13-14, rule15-16, rule17, rule18, rule19, rule20, byDepth, judged}
+use Rattle.rules.specs.Opening.{accepted}
 
 -- inOrder: a rule that refuses nothing holds of each item, with its row
-pub in-order-each : (rule : ℕ → Item → Answer (Unit {0})) (r : ℕ) (items : List Item) → inOrder rule r items ≡ ok tt → (k : ℕ) → k < length items → rule (r + k) (getD items k noItem) ≡ ok tt
+pub in-order-each : (rule : ℕ → Item → Answer (Unit {0})) (r : ℕ) (items : List Item) → inOrder rule r items ≡ ok tt →
+    (k : ℕ) → k < length items → rule (r + k) (getD items k noItem) ≡ ok tt
 unfolding inOrder
 in-order-each rule r [] e k h = absurd (omega arith)
 in-order-each rule r (i ∷ is) e zero h = rw add-zero (then-ok _ _ tt e .1)
 in-order-each rule r (i ∷ is) e (suc k) h =
     let z : suc r + k ≡ r + suc k = omega arith in
     rw z at (in-order-each rule (suc r) is (then-ok (rule r i) _ tt e .2) k (omega arith))
+
+-- and what follows from that for an item, for all
+pub in-order-all : (rule : ℕ → Item → Answer (Unit {0})) (P : Item → Type 0) →
+    ((r : ℕ) (i : Item) → rule r i ≡ ok tt → P i) → (r : ℕ) (items : List Item) → inOrder rule r items ≡ ok tt → All P items
+unfolding inOrder
+in-order-all rule P h r [] e = tt
+in-order-all rule P h r (i ∷ is) e = let x = then-ok _ _ tt e in (h r i (x .1), in-order-all rule P h (suc r) is (x .2))
+
+-- two rules that answer alike of each item
+pub in-order-same : (p q : ℕ → Item → Answer (Unit {0})) (r : ℕ) (items : List Item) →
+    All (λ (i : Item). (r : ℕ) → p r i ≡ q r i) items → inOrder p r items ≡ inOrder q r items
+unfolding inOrder
+in-order-same p q r [] a = refl
+in-order-same p q r (i ∷ is) a = rw (a .0 r, in-order-same p q (suc r) is (a .1))
 
 -- byDepth
 pub by-depth-each : (s : Scene) (is : List Item) (n d : ℕ) → byDepth s is n d ≡ ok tt → (k : ℕ) → k < n → inOrder (rule20 s (d + k)) 0 is ≡ ok tt
@@ -63,3 +80,17 @@ judged-each total head f e =
   where
     each : (rule : ℕ → Item → Answer (Unit {0})) → inOrder rule 0 (f .items) ≡ ok tt → (i : ℕ) → i < length (f .items) → rule i (itemAt f i) ≡ ok tt
     each rule h i l = rw zero-add at (in-order-each rule 0 (f .items) h i l)
+
+-- accepted: read, and judged well
+pub accepted-both : (total : ℕ) (head : List ℕ) (f : File) → accepted total head ≡ ok f →
+    (readFile total head ≡ ok f) × (judged total head f ≡ ok tt)
+unfolding accepted
+accepted-both total head f e =
+    let x = bind-ok _ _ f e in
+    let y = then-ok _ _ f (x .2) in
+    subst (λ (g : File). (readFile total head ≡ ok g) × (judged total head g ≡ ok tt)) (ok-inj _ f (y .2)) (x .1, y .1)
+
+pub both-accepted : (total : ℕ) (head : List ℕ) (f : File) → readFile total head ≡ ok f → judged total head f ≡ ok tt →
+    accepted total head ≡ ok f
+unfolding accepted
+both-accepted total head f r j = ok-bind _ _ f r ∙ ok-then _ _ tt j

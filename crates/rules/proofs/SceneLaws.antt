@@ -28,7 +28,7 @@ use Rattle.pictures.proofs.DecodeLaws.{turns-fit}
 use Rattle.rules.specs.Joined.{targetsOf, boxesOf, rowOf, noItem, itemAt}
 use Rattle.rules.specs.Derivations.{recipeOf, recipeOr, declaredIn, pictureOf, sceneOf}
 use Rattle.rules.specs.Rules.{rule17, rule19, rule20, judged}
-use Rattle.rules.specs.Questions.{accepted}
+use Rattle.rules.specs.Opening.{accepted}
 use Rattle.rules.proofs.RuleLaws.{Judged, judged-each}
 use Rattle.rules.proofs.DerivationLaws.{Images, shaped-map, shaped-drawn, recipe-fed}
 
@@ -86,9 +86,14 @@ module _ (total : ℕ) (head : List ℕ) (f : File) where
   module _ (j : Judged total head f) where
     -- an image item is in its row
     image-listed : (i : ℕ) → image (itemAt f i .type) ≡ true → i < length (f .items)
-    image-listed i e = elim (decLt i (length (f .items))) [ yes l ↦ l | no n ↦ untrue (rw (List·getD-eq-default (f .items) noItem {n = i} (omega (arith, n))) at e) ]
+    image-listed i e = elim (decLt i (length (f .items))) [
+      | yes l ↦ l
+      | no n ↦ untrue
+          (rw (List·getD-eq-default (f .items) noItem {n = i} (omega (arith, n))) at e)
+    ]
 
-    image-fed : (i : ℕ) → image (itemAt f i .type) ≡ true → Shaped (pictureAt s i .recipe) (targetsOf f (itemAt f i .id)) × Images f (targetsOf f (itemAt f i .id))
+    image-fed : (i : ℕ) → image (itemAt f i .type) ≡ true →
+        Shaped (pictureAt s i .recipe) (targetsOf f (itemAt f i .id)) × Images f (targetsOf f (itemAt f i .id))
     image-fed i e = inputs-fed i e (j .by-17 i (image-listed i e))
 
     image-drawn : (i : ℕ) → image (itemAt f i .type) ≡ true → (i < length s) × (pictureAt s i .recipe ≡ Opaque → ⊥)
@@ -110,7 +115,8 @@ module _ (total : ℕ) (head : List ℕ) (f : File) where
         let z = image-sizes i e d in
         let x = image-fed i e in
         record {
-          inputs-drawn = rw (inputs-at i e) (all-map _ _ (λ t. rowOf t (f .items)) (λ t h. image-drawn (rowOf t (f .items)) h) (targetsOf f (itemAt f i .id)) (x .1));
+          inputs-drawn = rw (inputs-at i e) (all-map _ _ (λ t. rowOf t (f .items))
+              (λ t h. image-drawn (rowOf t (f .items)) h) (targetsOf f (itemAt f i .id)) (x .1));
           shaped = rw (inputs-at i e) (shaped-map (λ t. rowOf t (f .items)) (pictureAt s i .recipe) (targetsOf f (itemAt f i .id)) (x .0));
           fit = fit-at i e z;
           sizes = z;

@@ -5,7 +5,7 @@
 --   rowOf id items         its row in table order; the number of items where it is not listed
 use Prim.Native.Nat.{ℕ, suc, _-_}
 use mathlib.Core.List.{List, [], _∷_, map}
-use mathlib.Core.Bool.{Bool}
+use mathlib.Core.Bool.{Bool, false}
 use lib.ListN.{getD}
 use lib.Dec.{eqb}
 use Rattle.fields.specs.Choice.{pick}
@@ -30,6 +30,10 @@ namedFor (n ∷ ns) id = pick (eqb (n .id) id) (n .list) (namedFor ns id)
 
 abbrev pub associationsOf : File → ℕ → List Association
 associationsOf f id = namedFor (f .associations) id
+
+-- what a list of associations holds behind its end
+abbrev pub noAssociation : Association
+noAssociation = record { essential = false; index = 0 }
 
 unfoldable pub derivedFrom : List Derivation → ℕ → List ℕ
 derivedFrom [] id = []

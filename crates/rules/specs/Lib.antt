@@ -4,4 +4,4 @@ pub mod Derivations
 pub mod Rules
 pub mod Places
 pub mod Words
-pub mod Questions
+pub mod Opening

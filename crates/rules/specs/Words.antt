@@ -1,7 +1,6 @@
 -- Table words: document 01, "Table words". The table is the file's spelling in 32-bit words; "Order is file order (items: `iinf`)".
 --   tableWords       how many words the table of a file has
---   wordsOf total head f     the words of an accepted file
---   after            what a call leaves in the table
+--   wordsOf total head f     the words of an accepted file; what a call leaves of them is `after`, in Opening.antt
 use Prim.Native.Nat.{ℕ, zero, suc, _+_, _*_, _-_, _/_, _%_}
 use mathlib.Core.List.{List, [], _∷_, _++_, map}
 use mathlib.Core.Bool.{Bool, true, false}
@@ -101,9 +100,12 @@ extentWords pl l e = highLow (fileOffset pl l e) ++ highLow (e .size)
 -- "0 to 15: item, property, association, target and extent counts; primary ID; total high, low; rest 0."
 abbrev pub headWords : ℕ → File → List ℕ
 headWords total f =
-    (length (f .items) ∷ length (f .properties) ∷ totalOf (namedGroups (f .associations)) ∷ totalOf (derivedGroups (f .derivations)) ∷ totalOf (locatedGroups (f .locations)) ∷ f .primary ∷ []) ++ highLow total
+    (length (f .items) ∷ length (f .properties) ∷ totalOf (namedGroups (f .associations)) ∷
+    totalOf (derivedGroups (f .derivations)) ∷ totalOf (locatedGroups (f .locations)) ∷ f .primary ∷ []) ++
+    highLow total
 
--- "From 16, 256 item records of 16 words"; "From 4,112, 256 properties of 4"; "From 5,136, 2,048 associations"; "From 7,184, 2,048 targets, as item IDs"; "From 9,232, 512 extents of 4"
+-- "From 16, 256 item records of 16 words"; "From 4,112, 256 properties of 4"; "From 5,136, 2,048 associations"; "From
+-- 7,184, 2,048 targets, as item IDs"; "From 9,232, 512 extents of 4"
 unfoldable pub wordsOf : ℕ → List ℕ → File → List ℕ
 wordsOf total head f =
     region 16 (headWords total f)

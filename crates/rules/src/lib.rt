@@ -1,1 +1,1 @@
-// Rules: no code. Refusals 12 to 25 and the answers, as definitions (specs/).
+// Rules: no code. Refusals 12 to 22 and the file that is opened, as definitions (specs/).

@@ -19,5 +19,8 @@ use Rattle.rules.specs.Rules.{inOrder, rule18, rule19, rule20, byDepth}
 use Rattle.sheet.specs.Sheet.{Line, ask, sheet}
 
 pub sheet-holds : map (λ (l : Line). ask (l .question)) sheet ≡ map (λ (l : Line). l .answer) sheet
-unfolding sheet ask pick beAt check _>>=_ _>>_ headOf Form._>>=_ give demandOf demand fieldBy field onto finish whole sizeAfter back sizeThrough undone signed halved placed edgeOf cropBy cropOf rotation mirror turnOf turnsOf grid-form outputOf allSize madeUp goodSizes reaches largest depthBy depthN tileAt layerAt sourceBy follow traced inOrder rule18 rule19 rule20 byDepth
+unfolding sheet ask pick beAt check _>>=_ _>>_ headOf Form._>>=_ give demandOf demand fieldBy field onto finish whole
+    sizeAfter back sizeThrough undone signed halved placed edgeOf cropBy cropOf rotation mirror turnOf turnsOf grid-form
+    outputOf allSize madeUp goodSizes reaches largest depthBy depthN tileAt layerAt sourceBy follow traced inOrder
+    rule18 rule19 rule20 byDepth
 sheet-holds = refl

@@ -54,7 +54,12 @@ abbrev pub layered : Scene
 layered =
     drawn 0 Coded [] (size 4 4) []
     ∷ drawn 1 Coded [] (size 4 4) []
-    ∷ drawn 2 (Layers (record { wide = 10; high = 10; offsets = record { right = minus 2; down = plus 0 } ∷ record { right = plus 1; down = plus 1 } ∷ [] })) (0 ∷ 1 ∷ []) (size 10 10) []
+    ∷ drawn 2 (Layers (record {
+      wide = 10;
+      high = 10;
+      offsets = record { right = minus 2; down = plus 0 } ∷
+          record { right = plus 1; down = plus 1 } ∷ [];
+    })) (0 ∷ 1 ∷ []) (size 10 10) []
     ∷ []
 
 abbrev pub copies : ℕ → Scene
@@ -71,7 +76,8 @@ typeOf Opaque = 0
 abbrev pub itemsOf : Scene → List Item
 itemsOf s = map (λ (p : Picture). record { id = p .id; type = typeOf (p .recipe); protection = 0; hidden = 0 }) s
 
--- body: a grid's rows, columns, width, height. outside: the output size of a row. from: kind (1 pixel, 2 fill), row, x, y and pictures passed. judge: refusals 18 to 20
+-- body: a grid's rows, columns, width, height. outside: the output size of a row. from: kind (1 pixel, 2 fill), row, x,
+-- y and pictures passed. judge: refusals 18 to 20
 pub data Question : Type 0 where
   body : List ℕ → Question
   outside : Scene → ℕ → Question

@@ -54,15 +54,20 @@ module _ (f : File) (k d : ℕ) (u w : List ℕ) (long : 11280 ≤ length u) (sm
   before-more z i e =
       let same : k ≡ i = omega arith in
       let wide = word-put 10 0 refl (omega arith) in
-      subst (λ (r : ℕ). (recordWord w r 10 ≡ 0 → ⊥) → toldSizes f (idOf f r) ≡ Are (size (recordWord w r 10) (recordWord w r 11)) (size (recordWord w r 12) (recordWord w r 13))) same
+      subst (λ (r : ℕ). (recordWord w r 10 ≡ 0 → ⊥) →
+      toldSizes f (idOf f r) ≡ Are (size (recordWord w r 10) (recordWord w r 11))
+      (size (recordWord w r 12) (recordWord w r 13))) same
       (λ n.
-      are-read (toldSizes f (idOf f k)) _ _ _ _ _ _ _ _ wide (word-put 11 1 refl (omega arith)) (word-put 12 2 refl (omega arith)) (word-put 13 3 refl (omega arith))
+      are-read (toldSizes f (idOf f k)) _ _ _ _ _ _ _ _ wide (word-put 11 1 refl (omega arith))
+      (word-put 12 2 refl (omega arith)) (word-put 13 3 refl (omega arith))
       (sizes-say f k d z (λ y. n (wide ∙ y))))
 
 -- row r, whose item has the associations of the one before: a, b, c and d are the words of that one's record
 pub before-alike : {t head : List ℕ} {pl : Places} {f : File} → TableOf t head pl f → (r : ℕ) → r < length (f .items) → ToldBefore t f r → 0 < r
-    → (a b c d : ℕ) → (r - 1 < 256 → a ≡ recordWord t (r - 1) 10) → (r - 1 < 256 → b ≡ recordWord t (r - 1) 11) → (r - 1 < 256 → c ≡ recordWord t (r - 1) 12) → (r - 1 < 256 → d ≡ recordWord t (r - 1) 13)
+    → (a b c d : ℕ) → (r - 1 < 256 → a ≡ recordWord t (r - 1) 10) → (r - 1 < 256 → b ≡ recordWord t (r - 1) 11) →
+    (r - 1 < 256 → c ≡ recordWord t (r - 1) 12) → (r - 1 < 256 → d ≡ recordWord t (r - 1) 13)
     → (a ≡ 0 → ⊥) → associationsOf f (idOf f r) ≡ associationsOf f (idOf f (r - 1)) → Are (size a b) (size c d) ≡ toldSizes f (idOf f r)
 before-alike {f = f} v r h told p a b c d ea eb ec ed n e =
     let small : r - 1 < 256 = omega (arith, row-small v r h) in
-    sym (are-read (toldSizes f (idOf f r)) _ _ _ _ a b c d (ea small) (eb small) (ec small) (ed small) (alike-told f (idOf f r) (idOf f (r - 1)) e ∙ told (r - 1) (omega arith) (λ z. n (ea small ∙ z))))
+    sym (are-read (toldSizes f (idOf f r)) _ _ _ _ a b c d (ea small) (eb small) (ec small) (ed small)
+    (alike-told f (idOf f r) (idOf f (r - 1)) e ∙ told (r - 1) (omega arith) (λ z. n (ea small ∙ z))))

@@ -45,20 +45,23 @@ module _ (f : File) (i : Item) where
 
     -- c and d are what the properties say
     module _ (p : eqb (i .protection) 0 ≡ true) where
-      properties-fault : (c d : Bool) → essentialKnown f (associationsOf f (i .id)) ≡ c → goodIspe (typesOf f (i .id)) ≡ d → (c && d) ≡ false → pick c 16 15 ≡ faultOf (rule15-16 f i)
+      properties-fault : (c d : Bool) → essentialKnown f (associationsOf f (i .id)) ≡ c →
+          goodIspe (typesOf f (i .id)) ≡ d → (c && d) ≡ false → pick c 16 15 ≡ faultOf (rule15-16 f i)
       unfolding faultOf pick check _>>_
       properties-fault true true ec ed q = untrue (sym q)
       properties-fault true false ec ed q = sym (told true true true false e p ec ed)
       properties-fault false d ec ed q = sym (told true true false d e p ec ed)
 
-      properties-free : (c d : Bool) → essentialKnown f (associationsOf f (i .id)) ≡ c → goodIspe (typesOf f (i .id)) ≡ d → (c && d) ≡ true → 0 ≡ faultOf (rule15-16 f i)
+      properties-free : (c d : Bool) → essentialKnown f (associationsOf f (i .id)) ≡ c →
+          goodIspe (typesOf f (i .id)) ≡ d → (c && d) ≡ true → 0 ≡ faultOf (rule15-16 f i)
       unfolding faultOf pick check _>>_
       properties-free true true ec ed q = sym (told true true true true e p ec ed)
       properties-free true false ec ed q = untrue q
       properties-free false d ec ed q = untrue q
 
     -- and the other way: what the properties of an item say that is not refused
-    known-free : (b c d : Bool) → eqb (i .protection) 0 ≡ b → essentialKnown f (associationsOf f (i .id)) ≡ c → goodIspe (typesOf f (i .id)) ≡ d → faultOf (rule15-16 f i) ≡ 0 → (c && d) ≡ true
+    known-free : (b c d : Bool) → eqb (i .protection) 0 ≡ b → essentialKnown f (associationsOf f (i .id)) ≡ c →
+        goodIspe (typesOf f (i .id)) ≡ d → faultOf (rule15-16 f i) ≡ 0 → (c && d) ≡ true
     unfolding faultOf pick check _>>_
     known-free true true true p ec ed z = refl
     known-free true true false p ec ed z = absurd (omega (arith, sym z ∙ told true true true false e p ec ed))
@@ -91,7 +94,9 @@ module _ {t head : List ℕ} {pl : Places} {f : File} (v : TableOf t head pl f) 
       open-is : eqb (itemAt f r .protection) 0 ≡ true
       open-is = eq-eqb _ 0 (sym protection-said ∙ z)
 
-      pub row-wrong : (n : ℕ) → n ≡ pick (essentialKnown f (associationsOf f (idOf f r))) 16 15 → (essentialKnown f (associationsOf f (idOf f r)) && goodIspe (typesOf f (idOf f r))) ≡ false → n ≡ faultOf (rule15-16 f (itemAt f r))
+      pub row-wrong : (n : ℕ) → n ≡ pick (essentialKnown f (associationsOf f (idOf f r))) 16 15 →
+          (essentialKnown f (associationsOf f (idOf f r)) && goodIspe (typesOf f (idOf f r))) ≡ false →
+          n ≡ faultOf (rule15-16 f (itemAt f r))
       row-wrong n e q = e ∙ properties-fault f (itemAt f r) (row-image y) open-is _ _ refl refl q
 
       pub row-declared : (essentialKnown f (associationsOf f (idOf f r)) && goodIspe (typesOf f (idOf f r))) ≡ true → 0 ≡ faultOf (rule15-16 f (itemAt f r))

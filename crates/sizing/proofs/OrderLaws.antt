@@ -33,7 +33,8 @@ then-blames id (refuse n p) b x y = x
 -- rule15-16
 pub declared-blames : (f : File) (i : Item) → Blames (i .id) (rule15-16 f i)
 unfolding rule15-16
-declared-blames f i = both (Blames (i .id)) _ _ _ (λ e. then-blames (i .id) _ _ (check-blames 15 _ _ (omega arith)) (check-blames 16 _ _ (omega arith))) (λ e. tt)
+declared-blames f i = both (Blames (i .id)) _ _ _ (λ e. then-blames (i .id) _ _ (check-blames 15 _ _ (omega arith))
+    (check-blames 16 _ _ (omega arith))) (λ e. tt)
 
 -- a number that is 0 is no fault, another is that of the item
 fault-none : (id : ℕ) (m : Answer (Unit {0})) → Blames id m → 0 ≡ faultOf m → m ≡ ok tt

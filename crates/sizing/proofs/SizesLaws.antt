@@ -79,7 +79,8 @@ module _ (s : Scene) (p : Picture) (g : Grid) (tile : Size) (e : tile ≡ firstI
       unfolding tilesFit
       tiles-low q = rw (← e, a, b, q)
 
-      pub tiles-over : leb (g .high) (tile .high * g .rows) ≡ true → (z : Size) → z ≡ p .declared → (t : Bool) → t ≡ sameSize z (size (g .wide) (g .high)) → t ≡ tilesFit s p g
+      pub tiles-over : leb (g .high) (tile .high * g .rows) ≡ true → (z : Size) → z ≡ p .declared → (t : Bool) →
+          t ≡ sameSize z (size (g .wide) (g .high)) → t ≡ tilesFit s p g
       unfolding tilesFit
       tiles-over q z d t h = rw (← e, a, b, q, ← d) h
 
@@ -122,15 +123,19 @@ module _ (total : ℕ) (head : List ℕ) (f : File) (r : ℕ) (i : image (itemAt
   pub scene-inputs : length (pictureAt (sceneOf total head f) r .inputs) ≡ length (targetsOf f (idOf f r))
   scene-inputs = ap length (inputs-at total head f r i) ∙ length-map (targetsOf f (idOf f r)) (λ (t : ℕ). rowOf t (f .items))
 
-  pub scene-input : (j : ℕ) → j < length (targetsOf f (idOf f r)) → getD (pictureAt (sceneOf total head f) r .inputs) j 0 ≡ rowOf (getD (targetsOf f (idOf f r)) j 0) (f .items)
+  pub scene-input : (j : ℕ) → j < length (targetsOf f (idOf f r)) →
+      getD (pictureAt (sceneOf total head f) r .inputs) j 0 ≡ rowOf (getD (targetsOf f (idOf f r)) j 0) (f .items)
   scene-input j l = ap (λ (is : List ℕ). getD is j 0) (inputs-at total head f r i) ∙ map-at (λ (t : ℕ). rowOf t (f .items)) (targetsOf f (idOf f r)) j l
 
   -- k is the row of the input with number j, z the output size in that row
-  pub scene-input-size : {t : List ℕ} {pl : Places} → TableOf t head pl f → SizesAre t (sceneOf total head f) → (j : ℕ) → j < length (targetsOf f (idOf f r)) → (k : ℕ) → k ≡ rowOf (getD (targetsOf f (idOf f r)) j 0) (f .items)
-      → (z : Size) → ((s : Scene) → SizesAre t s → k < length s → z ≡ outputOf (pictureAt s k)) → z ≡ outputOf (pictureAt (sceneOf total head f) (getD (pictureAt (sceneOf total head f) r .inputs) j 0))
+  pub scene-input-size : {t : List ℕ} {pl : Places} → TableOf t head pl f → SizesAre t (sceneOf total head f) →
+      (j : ℕ) → j < length (targetsOf f (idOf f r)) → (k : ℕ) → k ≡ rowOf (getD (targetsOf f (idOf f r)) j 0) (f .items)
+      → (z : Size) → ((s : Scene) → SizesAre t s → k < length s → z ≡ outputOf (pictureAt s k)) →
+      z ≡ outputOf (pictureAt (sceneOf total head f) (getD (pictureAt (sceneOf total head f) r .inputs) j 0))
   scene-input-size v w j l k e z o =
       let m = row-listed (f .items) (getD (targetsOf f (idOf f r)) j 0) (v .sound .listed (idOf f r) j l) in
-      o (sceneOf total head f) w (omega (arith, scene-many total head f)) ∙ ap (λ (k : ℕ). outputOf (pictureAt (sceneOf total head f) k)) (e ∙ sym (scene-input j l))
+      o (sceneOf total head f) w (omega (arith, scene-many total head f)) ∙
+      ap (λ (k : ℕ). outputOf (pictureAt (sceneOf total head f) k)) (e ∙ sym (scene-input j l))
 
 -- Drawn: the inputs of a picture, and the sizes that the table has of them
 module _ {t rows head : List ℕ} {total : ℕ} {f : File} (d : Drawn t rows head total f) (r : ℕ) (i : image (itemAt f r .type) ≡ true) where
@@ -146,7 +151,9 @@ module _ {t rows head : List ℕ} {total : ℕ} {f : File} (d : Drawn t rows hea
   pub inputs-many : length (p .inputs) ≡ length targets
   inputs-many = scene-inputs total head f r i
 
-  pub input-size : (j : ℕ) → j < length targets → (k : ℕ) → k ≡ rowOf (getD targets j 0) (f .items) → (z : Size) → ((s : Scene) → SizesAre t s → k < length s → z ≡ outputOf (pictureAt s k)) → z ≡ outputOf (pictureAt s (getD (p .inputs) j 0))
+  pub input-size : (j : ℕ) → j < length targets → (k : ℕ) → k ≡ rowOf (getD targets j 0) (f .items) → (z : Size) →
+      ((s : Scene) → SizesAre t s → k < length s → z ≡ outputOf (pictureAt s k)) →
+      z ≡ outputOf (pictureAt s (getD (p .inputs) j 0))
   input-size = scene-input-size total head f r i (d .view) (d .sizes)
 
   module _ (h : r < length (f .items)) where
@@ -158,26 +165,33 @@ module _ {t rows head : List ℕ} {total : ℕ} {f : File} (d : Drawn t rows hea
     -- the item is derived, and its derivation is read as x
     module _ (kind : derived (itemAt f r .type) ≡ true) (x : Derivation) (e : x ≡ toldDerivation (derivationFor total head f (itemAt f r))) where
       recipe-read : toldDerivation (ok (p .recipe)) ≡ x
-      recipe-read = let k = recipe-ok total head f r i (d .fed r h) in sym (e ∙ ap toldDerivation (derived-recipe total head f (itemAt f r) kind (k .0) (k .1) ∙ ap ok (sym (k .2))))
+      recipe-read = let k = recipe-ok total head f r i (d .fed r h) in
+          sym (e ∙ ap toldDerivation (derived-recipe total head f (itemAt f r) kind (k .0) (k .1) ∙ ap ok (sym (k .2))))
 
       pub made-read : (y : Derivation) → x ≡ y → madeBy s p y ≡ madeUp s p (p .recipe)
       made-read y q = sym (made-told s p (p .recipe) ∙ ap (madeBy s p) (recipe-read ∙ q))
 
       fed-read : (y : Derivation) → x ≡ y → Feeds y targets
-      fed-read y q = subst (λ (y : Derivation). Feeds y targets) (recipe-read ∙ q) (shaped-feeds (p .recipe) targets (inputs-fed total head f r i (d .fed r h) .0))
+      fed-read y q = subst (λ (y : Derivation). Feeds y targets) (recipe-read ∙ q)
+          (shaped-feeds (p .recipe) targets (inputs-fed total head f r i (d .fed r h) .0))
 
-      pub made-copy : x ≡ made.Copy → (k : ℕ) → (0 < length targets → k ≡ rowOf (getD targets 0 0) (f .items)) → (a z : Size) → a ≡ p .declared → ((s : Scene) → SizesAre t s → k < length s → z ≡ outputOf (pictureAt s k)) → (b : Bool) → b ≡ sameSize a z
+      pub made-copy : x ≡ made.Copy → (k : ℕ) → (0 < length targets → k ≡ rowOf (getD targets 0 0) (f .items)) →
+          (a z : Size) → a ≡ p .declared → ((s : Scene) → SizesAre t s → k < length s → z ≡ outputOf (pictureAt s k)) →
+          (b : Bool) → b ≡ sameSize a z
           → b ≡ madeUp s p (p .recipe)
       made-copy q k g a z ea o b eb =
           let l = fed-read made.Copy q in
           eb ∙ ap (λ (y : Size). sameSize y z) ea ∙ ap (sameSize (p .declared)) (input-size 0 l k (g l) z o) ∙ made-read made.Copy q
 
-      pub made-tiles : (down across wide high : ℕ) → x ≡ made.Tiles down across wide high → (b : Bool) → (0 < length (p .inputs) → b ≡ tilesFit s p (record { rows = down; columns = across; wide = wide; high = high })) → b ≡ madeUp s p (p .recipe)
+      pub made-tiles : (down across wide high : ℕ) → x ≡ made.Tiles down across wide high → (b : Bool) →
+          (0 < length (p .inputs) → b ≡ tilesFit s p (record
+          { rows = down; columns = across; wide = wide; high = high })) → b ≡ madeUp s p (p .recipe)
       made-tiles down across wide high q b g =
           let l = fed-read (made.Tiles down across wide high) q in
           g (omega (arith, inputs-many)) ∙ made-read (made.Tiles down across wide high) q
 
-      pub made-layers : (wide high : ℕ) → x ≡ made.Layers wide high → (a : Size) → a ≡ p .declared → (b : Bool) → b ≡ sameSize a (size wide high) → b ≡ madeUp s p (p .recipe)
+      pub made-layers : (wide high : ℕ) → x ≡ made.Layers wide high → (a : Size) → a ≡ p .declared → (b : Bool) →
+          b ≡ sameSize a (size wide high) → b ≡ madeUp s p (p .recipe)
       made-layers wide high q a ea b eb = eb ∙ ap (λ (y : Size). sameSize y (size wide high)) ea ∙ made-read (made.Layers wide high) q
 
 -- goodSizes, test by test

@@ -1,7 +1,8 @@
 -- TableOf while sizes and depths are put into the records: no word that it speaks of changes. Assumes nothing.
 --   Beside k i                the word i is none of those of row k that say its sizes and its depth
 --   byRow f                   15 and 16 of each item
---   Standing head u pl f k    the table u is the file's, nothing was put into the rows from k on, the sizes in the one before are its item's, and no item before them is refused
+-- Standing head u pl f k    the table u is the file's, nothing was put into the rows from k on, the sizes in the one
+-- before are its item's, and no item before them is refused
 --   Stands head t k u         so it is for every file whose table t was
 use Prim.Native.Nat.{ℕ, _+_, _*_, _<_, _≤_}
 use native.Mathlib.Omega.{arith}
@@ -76,14 +77,18 @@ module _ (t u : List ℕ) (k : ℕ) (small : k < 256) (long : length u ≡ lengt
         hidden = λ r h. front-kept r 2 (omega arith) ∙ v .hidden r h;
         named-room = λ r h. omega (arith, front-kept r 3 (omega arith), v .named-room r h);
         named-count = λ r h. front-kept r 4 (omega arith) ∙ v .named-count r h;
-        named = λ r j h l. behind-kept (5136 + (recordWord u r 3 + j)) (omega arith) ∙ ap (λ (a : ℕ). getD t (5136 + (a + j)) 0) (front-kept r 3 (omega arith)) ∙ v .named r j h l;
+        named = λ r j h l. behind-kept (5136 + (recordWord u r 3 + j)) (omega arith) ∙
+            ap (λ (a : ℕ). getD t (5136 + (a + j)) 0) (front-kept r 3 (omega arith)) ∙ v .named r j h l;
         target-room = λ r h. omega (arith, front-kept r 5 (omega arith), v .target-room r h);
         target-count = λ r h. front-kept r 6 (omega arith) ∙ v .target-count r h;
-        target = λ r j h l. behind-kept (7184 + (recordWord u r 5 + j)) (omega arith) ∙ ap (λ (a : ℕ). getD t (7184 + (a + j)) 0) (front-kept r 5 (omega arith)) ∙ v .target r j h l;
+        target = λ r j h l. behind-kept (7184 + (recordWord u r 5 + j)) (omega arith) ∙
+            ap (λ (a : ℕ). getD t (7184 + (a + j)) 0) (front-kept r 5 (omega arith)) ∙ v .target r j h l;
         extent-room = λ r h. omega (arith, front-kept r 7 (omega arith), v .extent-room r h);
         extent-count = λ r h. front-kept r 8 (omega arith) ∙ v .extent-count r h;
-        extent-size = λ r j h l. wide-kept (9232 + 4 * (recordWord u r 7 + j) + 2) (omega arith) ∙ ap (λ (a : ℕ). wide t (9232 + 4 * (a + j) + 2)) (front-kept r 7 (omega arith)) ∙ v .extent-size r j h l;
-        extent-offset = λ r j h l. wide-kept (9232 + 4 * (recordWord u r 7 + j)) (omega arith) ∙ ap (λ (a : ℕ). wide t (9232 + 4 * (a + j))) (front-kept r 7 (omega arith)) ∙ v .extent-offset r j h l;
+        extent-size = λ r j h l. wide-kept (9232 + 4 * (recordWord u r 7 + j) + 2) (omega arith) ∙
+            ap (λ (a : ℕ). wide t (9232 + 4 * (a + j) + 2)) (front-kept r 7 (omega arith)) ∙ v .extent-size r j h l;
+        extent-offset = λ r j h l. wide-kept (9232 + 4 * (recordWord u r 7 + j)) (omega arith) ∙
+            ap (λ (a : ℕ). wide t (9232 + 4 * (a + j))) (front-kept r 7 (omega arith)) ∙ v .extent-offset r j h l;
         method = λ r h. front-kept r 9 (omega arith) ∙ v .method r h;
         property-kind = λ p h. behind-kept (4112 + 4 * p) (omega arith) ∙ v .property-kind p h;
         property-room = λ p h. omega (arith, behind-kept (4112 + 4 * p + 1) (omega arith), behind-kept (4112 + 4 * p + 2) (omega arith), v .property-room p h);
@@ -112,8 +117,11 @@ module _ (head t : List ℕ) where
   -- row k, whose number is m; the table is w then
   module _ (n k : ℕ) (u : List ℕ) (c : n ≡ getD t 0 0) (h : Stands head t k u) where
     module _ (d m : ℕ) (w : List ℕ) (l : k < n)
-        (fault : (pl : Places) (f : File) → TableOf u head pl f → k < length (f .items) → recordWord u k 12 ≡ itemAt f k .protection → ToldBefore u f k → m ≡ faultOf (rule15-16 f (itemAt f k))) where
-      pub stands-more : ((pl : Places) (f : File) → TableOf u head pl f → k < length (f .items) → ToldBefore u f k → m ≡ 0 → w ≡ sets u (26 + 16 * k) (sizesIn f k d)) → m ≡ 0 → Stands head t (k + 1) w
+        (fault : (pl : Places) (f : File) → TableOf u head pl f → k < length (f .items) →
+        recordWord u k 12 ≡ itemAt f k .protection → ToldBefore u f k →
+        m ≡ faultOf (rule15-16 f (itemAt f k))) where
+      pub stands-more : ((pl : Places) (f : File) → TableOf u head pl f → k < length (f .items) → ToldBefore u f k →
+          m ≡ 0 → w ≡ sets u (26 + 16 * k) (sizesIn f k d)) → m ≡ 0 → Stands head t (k + 1) w
       stands-more put z pl f v j =
           let s = h pl f v j in
           let i : k < length (f .items) = omega (arith, v .items) in
@@ -130,13 +138,15 @@ module _ (head t : List ℕ) where
           }
 
       pub stands-refused : ((m ≡ 0 → ⊥) → w ≡ u) → (m ≡ 0 → ⊥) → (id : ℕ) → (k < 256 → id ≡ recordWord w k 0)
-          → (pl : Places) (f : File) → TableOf t head pl f → Judging t f → Refused (record { number = m; place = id }) ≡ toldFilled (inOrder (byRow f) 0 (f .items))
+          → (pl : Places) (f : File) → TableOf t head pl f → Judging t f →
+          Refused (record { number = m; place = id }) ≡ toldFilled (inOrder (byRow f) 0 (f .items))
       unfolding toldFilled
       stands-refused left z id e pl f v j =
           let s = h pl f v j in
           let i : k < length (f .items) = omega (arith, v .items) in
           let same : id ≡ idOf f k = e (row-small v k i) ∙ ap (λ (x : List ℕ). recordWord x k 0) (left z) ∙ s .view .id k i in
-          rw same (sym (ap toldFilled (s .order ∙ order-off (byRow f) f k m i (declared-blames f (itemAt f k)) (fault pl f (s .view) i (s .protection k (omega arith) i) (s .told)) z)))
+          rw same (sym (ap toldFilled (s .order ∙ order-off (byRow f) f k m i (declared-blames f (itemAt f k))
+          (fault pl f (s .view) i (s .protection k (omega arith) i) (s .told)) z)))
 
     pub stands-done : k ≡ n → (pl : Places) (f : File) → TableOf t head pl f → Judging t f → All ≡ toldFilled (inOrder (byRow f) 0 (f .items))
     unfolding toldFilled

@@ -30,11 +30,14 @@ sizesFor s o d = s .wide ∷ s .high ∷ o .wide ∷ o .high ∷ d ∷ []
 unfoldable pub sizesIn : File → ℕ → ℕ → List ℕ
 sizesIn f r d =
     pick (image (itemAt f r .type))
-    (sizesFor (declaredIn (boxesOf f (idOf f r))) (sizeThrough (turnsOf (declaredIn (boxesOf f (idOf f r))) (boxesOf f (idOf f r))) (declaredIn (boxesOf f (idOf f r)))) d)
+    (sizesFor (declaredIn (boxesOf f (idOf f r))) (sizeThrough
+    (turnsOf (declaredIn (boxesOf f (idOf f r))) (boxesOf f (idOf f r))) (declaredIn (boxesOf f (idOf f r)))) d)
     (replicate 5 0)
 
 abbrev pub ToldBefore : List ℕ → File → ℕ → Type 0
-ToldBefore t f r = (k : ℕ) → suc k ≡ r → (recordWord t k 10 ≡ 0 → ⊥) → toldSizes f (idOf f k) ≡ Are (size (recordWord t k 10) (recordWord t k 11)) (size (recordWord t k 12) (recordWord t k 13))
+ToldBefore t f r = (k : ℕ) → suc k ≡ r → (recordWord t k 10 ≡ 0 → ⊥) →
+    toldSizes f (idOf f k) ≡ Are (size (recordWord t k 10) (recordWord t k 11))
+    (size (recordWord t k 12) (recordWord t k 13))
 
 pub record Drawn (t rows head : List ℕ) (total : ℕ) (f : File) : Type 0 where
   pub view : TableOf t head (placesIn total head) f

@@ -45,9 +45,11 @@ fn put_sizes(table: &mut [u32], row: ItemRow, s: Size, o: Size, depth: u32)
     table[at + 4] = depth;
 }
 
-// The sizes of the picture in a row, where those of the rows before it stand in their records. A camera gives the tiles of a grid the same properties: the row before is looked at first. Its width is 0 where it is opaque.
+// The sizes of the picture in a row, where those of the rows before it stand in their records. A camera gives the tiles
+// of a grid the same properties: the row before is looked at first. Its width is 0 where it is opaque.
 fn sizes_of(head: &[u8], table: &[u32], row: ItemRow) -> SizesRead
-    ensures { λ r. ⌜ ((pl : Places) (f : File) → TableOf (now (table .entry)) (now (head .entry)) pl f → row .0 < length (f .items) → ToldBefore (now (table .entry)) f (row .0) → r ≡ toldSizes f (idOf f (row .0))) ⌝ }
+    ensures { λ r. ⌜ ((pl : Places) (f : File) → TableOf (now (table .entry)) (now (head .entry)) pl f →
+        row .0 < length (f .items) → ToldBefore (now (table .entry)) f (row .0) → r ≡ toldSizes f (idOf f (row .0))) ⌝ }
 {
     let r = row.0;
     if 0 < r {
@@ -74,8 +76,12 @@ fn sizes_of(head: &[u8], table: &[u32], row: ItemRow) -> SizesRead
 // The sizes and depth of the item in a row into its record; an opaque one has none. Where 15 or 16 refuses it, the number.
 fn fill_row(head: &[u8], table: &mut [u32], row: ItemRow, depth: u32) -> u32
     requires { ⌜ (11280 ≤ length (now table)) × (row .0 < 256) ⌝ }
-    ensures { λ r. ⌜ ((pl : Places) (f : File) → TableOf (now (table .entry)) (now (head .entry)) pl f → row .0 < length (f .items) → recordWord (now (table .entry)) (row .0) 12 ≡ itemAt f (row .0) .protection → ToldBefore (now (table .entry)) f (row .0) → r ≡ faultOf (rule15-16 f (itemAt f (row .0)))) ⌝ }
-    ensures { λ r. ⌜ ((pl : Places) (f : File) → TableOf (now (table .entry)) (now (head .entry)) pl f → row .0 < length (f .items) → ToldBefore (now (table .entry)) f (row .0) → r ≡ 0 → now (table .exit) ≡ sets (now (table .entry)) (26 + 16 * row .0) (sizesIn f (row .0) depth)) ⌝ }
+    ensures { λ r. ⌜ ((pl : Places) (f : File) → TableOf (now (table .entry)) (now (head .entry)) pl f →
+        row .0 < length (f .items) → recordWord (now (table .entry)) (row .0) 12 ≡ itemAt f (row .0) .protection →
+        ToldBefore (now (table .entry)) f (row .0) → r ≡ faultOf (rule15-16 f (itemAt f (row .0)))) ⌝ }
+    ensures { λ r. ⌜ ((pl : Places) (f : File) → TableOf (now (table .entry)) (now (head .entry)) pl f →
+        row .0 < length (f .items) → ToldBefore (now (table .entry)) f (row .0) → r ≡ 0 →
+        now (table .exit) ≡ sets (now (table .entry)) (26 + 16 * row .0) (sizesIn f (row .0) depth)) ⌝ }
     ensures { λ r. ⌜ ((r ≡ 0 → ⊥) → now (table .exit) ≡ now (table .entry)) ⌝ }
     ensures { λ _. ⌜ drop 11280 (now (table .exit)) ≡ drop 11280 (now (table .entry)) ⌝ }
 {
@@ -104,8 +110,15 @@ pub enum Filled {
 
 // The sizes and depths of all items, or the first that 15 or 16 refuses.
 pub fn fill_sizes(head: &[u8], table: &mut [u32], depths: &[u32]) -> Filled
-    ensures { λ r. ⌜ ((total : ℕ) (f : File) (x : List ℕ) → total < 18446744073709551616 → readFile total (now (head .entry)) ≡ ok f → now (table .entry) ≡ rawOf (headWords total f) (placesIn total (now (head .entry))) f ++ x → r ≡ toldFilled (inOrder (λ (k : ℕ) (i : Item). rule15-16 f i) 0 (f .items))) ⌝ }
-    ensures { λ r. ⌜ ((total : ℕ) (f : File) (x : List ℕ) → total < 18446744073709551616 → readFile total (now (head .entry)) ≡ ok f → AllPlaced total (now (head .entry)) f → now (table .entry) ≡ rawOf (headWords total f) (placesIn total (now (head .entry))) f ++ x → ((r : ℕ) → r < length (f .items) → getD (now (depths .entry)) r 0 ≡ depth (sceneOf total (now (head .entry)) f) r) → r ≡ Filled.All → now (table .exit) ≡ wordsOf total (now (head .entry)) f ++ x) ⌝ }
+    ensures { λ r. ⌜ ((total : ℕ) (f : File) (x : List ℕ) → total < 18446744073709551616 →
+        readFile total (now (head .entry)) ≡ ok f → now (table .entry) ≡ rawOf (headWords total f)
+        (placesIn total (now (head .entry))) f ++ x → r ≡ toldFilled
+        (inOrder (λ (k : ℕ) (i : Item). rule15-16 f i) 0 (f .items))) ⌝ }
+    ensures { λ r. ⌜ ((total : ℕ) (f : File) (x : List ℕ) → total < 18446744073709551616 →
+        readFile total (now (head .entry)) ≡ ok f → AllPlaced total (now (head .entry)) f →
+        now (table .entry) ≡ rawOf (headWords total f) (placesIn total (now (head .entry))) f ++ x →
+        ((r : ℕ) → r < length (f .items) → getD (now (depths .entry)) r 0 ≡ depth (sceneOf total (now (head .entry)) f)
+        r) → r ≡ Filled.All → now (table .exit) ≡ wordsOf total (now (head .entry)) f ++ x) ⌝ }
     ensures { λ _. ⌜ drop 11280 (now (table .exit)) ≡ drop 11280 (now (table .entry)) ⌝ }
 {
     if table.len() < Table::WORDS {
@@ -190,7 +203,10 @@ fn held_output(table: &[u32], row: ItemRow) -> Size
 
 // Whether all inputs of an item have the output size z. No table of a file is shorter: the one test spares each input its own.
 fn all_size(table: &[u32], rows: &[u32], row: ItemRow, z: Size) -> bool
-    ensures { λ r. ⌜ ((total : ℕ) (head : List ℕ) (f : File) → Drawn (now (table .entry)) (now (rows .entry)) head total f → row .0 < length (f .items) → image (itemAt f (row .0) .type) ≡ true → r ≡ allSize (sceneOf total head f) z (pictureAt (sceneOf total head f) (row .0) .inputs)) ⌝ }
+    ensures { λ r. ⌜ ((total : ℕ) (head : List ℕ) (f : File) →
+        Drawn (now (table .entry)) (now (rows .entry)) head total f → row .0 < length (f .items) →
+        image (itemAt f (row .0) .type) ≡ true → r ≡ allSize (sceneOf total head f) z
+        (pictureAt (sceneOf total head f) (row .0) .inputs)) ⌝ }
 {
     if table.len() < Table::WORDS {
         return true;
@@ -225,7 +241,11 @@ fn tiles_fit(
     across: u32,
     canvas: Size,
 ) -> bool
-    ensures { λ r. ⌜ ((total : ℕ) (head : List ℕ) (f : File) → Drawn (now (table .entry)) (now (rows .entry)) head total f → row .0 < length (f .items) → image (itemAt f (row .0) .type) ≡ true → 0 < length (pictureAt (sceneOf total head f) (row .0) .inputs) → r ≡ tilesFit (sceneOf total head f) (pictureAt (sceneOf total head f) (row .0)) (record { rows = down; columns = across; wide = canvas .wide; high = canvas .high })) ⌝ }
+    ensures { λ r. ⌜ ((total : ℕ) (head : List ℕ) (f : File) →
+        Drawn (now (table .entry)) (now (rows .entry)) head total f → row .0 < length (f .items) →
+        image (itemAt f (row .0) .type) ≡ true → 0 < length (pictureAt (sceneOf total head f) (row .0) .inputs) →
+        r ≡ tilesFit (sceneOf total head f) (pictureAt (sceneOf total head f) (row .0))
+        (record { rows = down; columns = across; wide = canvas .wide; high = canvas .high })) ⌝ }
 {
     let tile = output_in(table, derived::input_of(table, rows, row, 0));
     if !all_size(table, rows, row, tile) {
@@ -242,7 +262,11 @@ fn tiles_fit(
 
 // Whether the declared size of a derived item is what its body or its input makes of it.
 fn is_as_derived(head: &[u8], table: &[u32], rows: &[u32], row: ItemRow) -> bool
-    ensures { λ r. ⌜ ((total : ℕ) (f : File) → Drawn (now (table .entry)) (now (rows .entry)) (now (head .entry)) total f → row .0 < length (f .items) → image (itemAt f (row .0) .type) ≡ true → derived (itemAt f (row .0) .type) ≡ true → r ≡ madeUp (sceneOf total (now (head .entry)) f) (pictureAt (sceneOf total (now (head .entry)) f) (row .0)) (pictureAt (sceneOf total (now (head .entry)) f) (row .0) .recipe)) ⌝ }
+    ensures { λ r. ⌜ ((total : ℕ) (f : File) →
+        Drawn (now (table .entry)) (now (rows .entry)) (now (head .entry)) total f → row .0 < length (f .items) →
+        image (itemAt f (row .0) .type) ≡ true → derived (itemAt f (row .0) .type) ≡ true →
+        r ≡ madeUp (sceneOf total (now (head .entry)) f) (pictureAt (sceneOf total (now (head .entry)) f) (row .0))
+        (pictureAt (sceneOf total (now (head .entry)) f) (row .0) .recipe)) ⌝ }
 {
     let d = derived::derivation_of(head, table, row);
     match d {
@@ -263,7 +287,11 @@ fn is_as_derived(head: &[u8], table: &[u32], rows: &[u32], row: ItemRow) -> bool
 
 // Whether the declared size is what the item's body or its input makes of it; a coded item has neither, and hands nothing on.
 fn is_made_up(head: &[u8], table: &[u32], rows: &[u32], row: ItemRow) -> bool
-    ensures { λ r. ⌜ ((total : ℕ) (f : File) → Drawn (now (table .entry)) (now (rows .entry)) (now (head .entry)) total f → row .0 < length (f .items) → image (itemAt f (row .0) .type) ≡ true → r ≡ madeUp (sceneOf total (now (head .entry)) f) (pictureAt (sceneOf total (now (head .entry)) f) (row .0)) (pictureAt (sceneOf total (now (head .entry)) f) (row .0) .recipe)) ⌝ }
+    ensures { λ r. ⌜ ((total : ℕ) (f : File) →
+        Drawn (now (table .entry)) (now (rows .entry)) (now (head .entry)) total f → row .0 < length (f .items) →
+        image (itemAt f (row .0) .type) ≡ true → r ≡ madeUp (sceneOf total (now (head .entry)) f)
+        (pictureAt (sceneOf total (now (head .entry)) f) (row .0))
+        (pictureAt (sceneOf total (now (head .entry)) f) (row .0) .recipe)) ⌝ }
 {
     if !views::is_derived(views::type_of(table, row)) {
         return true;
@@ -273,7 +301,10 @@ fn is_made_up(head: &[u8], table: &[u32], rows: &[u32], row: ItemRow) -> bool
 
 // Rule 20 for the picture in a row.
 pub fn good_sizes(head: &[u8], table: &[u32], rows: &[u32], row: ItemRow) -> bool
-    ensures { λ r. ⌜ ((total : ℕ) (f : File) → Drawn (now (table .entry)) (now (rows .entry)) (now (head .entry)) total f → row .0 < length (f .items) → image (itemAt f (row .0) .type) ≡ true → r ≡ goodSizes (sceneOf total (now (head .entry)) f) (pictureAt (sceneOf total (now (head .entry)) f) (row .0))) ⌝ }
+    ensures { λ r. ⌜ ((total : ℕ) (f : File) →
+        Drawn (now (table .entry)) (now (rows .entry)) (now (head .entry)) total f → row .0 < length (f .items) →
+        image (itemAt f (row .0) .type) ≡ true → r ≡ goodSizes (sceneOf total (now (head .entry)) f)
+        (pictureAt (sceneOf total (now (head .entry)) f) (row .0))) ⌝ }
 {
     if !is_made_up(head, table, rows, row) {
         return false;

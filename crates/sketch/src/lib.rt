@@ -1,32 +1,39 @@
 // The picture of a picture: how an item of an accepted file is put together, from its output image down to the coded items; and the picture of a refusal.
-mod place;
 mod turns;
 
 ghost use mathlib.Core.Path.{_≡_};
 ghost use Prim.Native.Nat.{_-_, _≤_};
 use boxes::Refusal;
-use canvas::Margins;
-use canvas::Part;
-use canvas::Pose;
-use canvas::ZERO;
 use canvas::put;
 use canvas::put_number;
 use canvas::put_with;
+use corners::Corner;
+use corners::Seen;
 use facing::Faced;
+use layout::Margins;
+use layout::Part;
+use layout::Pose;
+use layout::ZERO;
 use pictures::GridRead;
 use pictures::OverlayRead;
 use pictures::Size;
-use place::Corner;
-use place::Seen;
 use table::ItemRow;
 use words::PlaceKind;
 
-// How a picture lies: what is seen of it, its pose, whether what is cut away is drawn around it, and of how many pictures that lie just so it is the copy.
+// How a picture lies: what is seen of it, its pose, whether what is cut away is drawn around it, of how many pictures that lie
+// just so it is the copy, and how many millionths of a pixel a step on the screen is, which is the same for all.
 struct Lying {
     part: Part,
     pose: Pose,
     around: bool,
     copies: u32,
+    scale: u32,
+}
+
+// How far drawing may go on: so many derivations down, and with so many inputs.
+struct Limit {
+    down: u32,
+    left: u32,
 }
 
 fn no_margins() -> Margins {
@@ -48,7 +55,7 @@ fn tile_corner(head: &[u8], table: &[u32], row: ItemRow, k: u32, s: Size) -> Cor
             columns,
             wide: _,
             high: _,
-        } => place::tile_in(columns, k, s),
+        } => corners::tile_in(columns, k, s),
     }
 }
 
@@ -66,7 +73,7 @@ fn layer_corner(head: &[u8], table: &[u32], row: ItemRow, k: u32) -> Corner {
             wide: _,
             high: _,
             bytes,
-        } => place::offset_in(b, bytes, k),
+        } => corners::offset_in(b, bytes, k),
     }
 }
 
@@ -91,10 +98,10 @@ fn margins_of(head: &[u8], table: &[u32], rows: &[u32], d: u32, row: ItemRow) ->
         if 0 < d {
             let input = derived::input_of(table, rows, row, 0);
             let m = margins_of(head, table, rows, d - 1, input);
-            return turns::margins_through(head, table, row, sizing::declared_in(table, row), m);
+            return turned::margins_through(head, table, row, sizing::declared_in(table, row), m);
         }
     }
-    turns::margins_through(
+    turned::margins_through(
         head,
         table,
         row,
@@ -117,15 +124,15 @@ fn is_cut(m: Margins) -> bool {
 }
 
 // The ID and type of an item, and what its transforms do.
-fn put_tag(head: &[u8], table: &[u32], row: ItemRow, lying: Lying, scale: u32) {
+fn put_tag(head: &[u8], table: &[u32], row: ItemRow, lying: Lying) {
     let id = views::id_of(table, row).0;
     let kind = views::type_of(table, row);
     let part = lying.part;
     let pose = lying.pose;
     if views::is_derived(kind) {
-        canvas::open_derived_tag(part, pose, id, kind, scale, lying.copies);
+        canvas::open_derived_tag(part, pose, id, kind, lying.scale, lying.copies);
     } else {
-        canvas::open_coded_tag(part, pose, id, kind, scale);
+        canvas::open_coded_tag(part, pose, id, kind, lying.scale);
     }
     turns::put_turns(head, table, row);
     canvas::close_tag();
@@ -148,19 +155,19 @@ fn open_item(table: &[u32], row: ItemRow, pose: Pose) {
 }
 
 // What is drawn after them.
-fn close_item(head: &[u8], table: &[u32], rows: &[u32], row: ItemRow, lying: Lying, scale: u32) {
+fn close_item(head: &[u8], table: &[u32], rows: &[u32], row: ItemRow, lying: Lying) {
     let part = lying.part;
     let pose = lying.pose;
     match views::type_of(table, row) {
         IDEN => canvas::close_group(),
         GRID => canvas::close_canvas(),
         IOVL => {
-            tag_layers(head, table, rows, row, lying, scale);
+            tag_layers(head, table, rows, row, lying);
             canvas::close_canvas();
         }
-        _ => canvas::put_arrow(part, pose, scale),
+        _ => canvas::put_arrow(part, pose, lying.scale),
     }
-    put_tag(head, table, row, lying, scale);
+    put_tag(head, table, row, lying);
 }
 
 // How an input lies of which a part is seen.
@@ -172,6 +179,7 @@ fn lying_in(lying: Lying, part: Part, copied: bool) -> Lying {
             pose,
             around: false,
             copies: 1,
+            scale: lying.scale,
         };
     }
     Lying {
@@ -179,6 +187,7 @@ fn lying_in(lying: Lying, part: Part, copied: bool) -> Lying {
         pose,
         around: lying.around,
         copies: std::num::wrapping_add_u32(lying.copies, 1),
+        scale: lying.scale,
     }
 }
 
@@ -186,7 +195,7 @@ fn lying_in(lying: Lying, part: Part, copied: bool) -> Lying {
 fn seen_at(head: &[u8], table: &[u32], row: ItemRow, k: u32, lying: Lying, s: Size) -> Seen {
     let part = lying.part;
     let corner = corner_of(head, table, row, k, s);
-    place::seen_of(
+    corners::seen_of(
         part,
         sizing::declared_in(table, row),
         lying.around,
@@ -201,27 +210,19 @@ fn open_input(head: &[u8], table: &[u32], row: ItemRow, k: u32, s: Size) {
 }
 
 // What crops kept of an input.
-fn put_kept(head: &[u8], table: &[u32], rows: &[u32], input: ItemRow, lying: Lying, scale: u32) {
+fn put_kept(head: &[u8], table: &[u32], rows: &[u32], input: ItemRow, lying: Lying) {
     let m = margins_of(head, table, rows, 16, input);
     if is_cut(m) {
         let part = lying.part;
         let pose = lying.pose;
         let s = sizing::output_in(table, input);
         let up = views::is_coded(views::type_of(table, input));
-        canvas::put_kept(part, pose, s, m, scale, up);
+        canvas::put_kept(part, pose, s, m, lying.scale, up);
     }
 }
 
 // What tells of an overlay's input again, above those that lie on it.
-fn tag_layer(
-    head: &[u8],
-    table: &[u32],
-    rows: &[u32],
-    row: ItemRow,
-    k: u32,
-    lying: Lying,
-    scale: u32,
-) {
+fn tag_layer(head: &[u8], table: &[u32], rows: &[u32], row: ItemRow, k: u32, lying: Lying) {
     let input = derived::input_of(table, rows, row, k as usize);
     let s = sizing::output_in(table, input);
     let seen = seen_at(head, table, row, k, lying, s);
@@ -231,8 +232,8 @@ fn tag_layer(
             open_input(head, table, row, k, s);
             let within = lying_in(lying, part, false);
             canvas::put_under(s);
-            put_kept(head, table, rows, input, within, scale);
-            put_tag(head, table, input, within, scale);
+            put_kept(head, table, rows, input, within);
+            put_tag(head, table, input, within);
             canvas::close_group();
         }
     }
@@ -249,11 +250,11 @@ fn input_count(table: &[u32], row: ItemRow) -> u32
     n as u32
 }
 
-fn tag_layers(head: &[u8], table: &[u32], rows: &[u32], row: ItemRow, lying: Lying, scale: u32) {
+fn tag_layers(head: &[u8], table: &[u32], rows: &[u32], row: ItemRow, lying: Lying) {
     let n = input_count(table, row);
     let mut k: u32 = 0;
     while k < n {
-        tag_layer(head, table, rows, row, k, lying, scale);
+        tag_layer(head, table, rows, row, k, lying);
         k += 1;
     }
 }
@@ -266,42 +267,40 @@ fn close_input(
     input: ItemRow,
     lying: Lying,
     copied: bool,
-    scale: u32,
 ) {
     if !copied {
         canvas::put_edge(sizing::output_in(table, input));
-        put_kept(head, table, rows, input, lying, scale);
+        put_kept(head, table, rows, input, lying);
     }
     canvas::close_group();
 }
 
-// Draws the output image of an item, at most d derivations down and with at most so many inputs, and answers how many more may be drawn.
+// Draws the output image of an item as far as a limit, and answers how many more inputs may be drawn.
 fn draw_output(
     head: &[u8],
     table: &[u32],
     rows: &[u32],
-    d: u32,
+    limit: Limit,
     row: ItemRow,
     lying: Lying,
-    scale: u32,
-    left: u32,
 ) -> u32
-    ensures { λ r. ⌜ r ≤ left ⌝ }
+    ensures { λ r. ⌜ r ≤ limit .left ⌝ }
 {
     let s = sizing::declared_in(table, row);
     let part = lying.part;
     let pose = lying.pose;
     let around = lying.around;
     turns::open_turns(head, table, row, 0, s, around);
-    let seen = turns::part_within(head, table, row, s, part);
-    let turned = turns::pose_within(head, table, row, s, pose);
+    let seen = turned::part_within(head, table, row, s, part);
+    let posed = turned::pose_within(head, table, row, s, pose);
     let within = Lying {
         part: seen,
-        pose: turned,
+        pose: posed,
         around,
         copies: lying.copies,
+        scale: lying.scale,
     };
-    let rest = draw_reconstructed(head, table, rows, d, row, within, scale, left);
+    let rest = draw_reconstructed(head, table, rows, limit, row, within);
     turns::close_turns(head, table, row, s, around);
     rest
 }
@@ -310,24 +309,26 @@ fn draw_reconstructed(
     head: &[u8],
     table: &[u32],
     rows: &[u32],
-    d: u32,
+    limit: Limit,
     row: ItemRow,
     lying: Lying,
-    scale: u32,
-    left: u32,
 ) -> u32
-    ensures { λ r. ⌜ r ≤ left ⌝ }
+    ensures { λ r. ⌜ r ≤ limit .left ⌝ }
 {
     let pose = lying.pose;
     open_item(table, row, pose);
     let n = input_count(table, row);
-    let mut rest = left;
+    let mut rest = limit.left;
     let mut k: u32 = 0;
     while k < n {
-        rest = draw_input(head, table, rows, d, row, k, lying, scale, rest);
+        let further = Limit {
+            down: limit.down,
+            left: rest,
+        };
+        rest = draw_input(head, table, rows, further, row, k, lying);
         k += 1;
     }
-    close_item(head, table, rows, row, lying, scale);
+    close_item(head, table, rows, row, lying);
     rest
 }
 
@@ -336,32 +337,34 @@ fn draw_input(
     head: &[u8],
     table: &[u32],
     rows: &[u32],
-    d: u32,
+    limit: Limit,
     row: ItemRow,
     k: u32,
     lying: Lying,
-    scale: u32,
-    left: u32,
 ) -> u32
-    ensures { λ r. ⌜ r ≤ left - 1 ⌝ }
+    ensures { λ r. ⌜ r ≤ limit .left - 1 ⌝ }
 {
     let copied = views::type_of(table, row) == IDEN;
     let input = derived::input_of(table, rows, row, k as usize);
     let s = sizing::output_in(table, input);
     let seen = seen_at(head, table, row, k, lying, s);
     match seen {
-        Seen::None => place::fewer(left),
+        Seen::None => layout::fewer(limit.left),
         Seen::Is(part) => {
             open_input(head, table, row, k, s);
-            if d == 0 {
+            if limit.down == 0 {
                 return shut(table, input, s);
             }
-            if left == 0 {
+            if limit.left == 0 {
                 return shut(table, input, s);
             }
             let within = lying_in(lying, part, copied);
-            let rest = draw_output(head, table, rows, d - 1, input, within, scale, left - 1);
-            close_input(head, table, rows, input, within, copied, scale);
+            let further = Limit {
+                down: limit.down - 1,
+                left: limit.left - 1,
+            };
+            let rest = draw_output(head, table, rows, further, input, within);
+            close_input(head, table, rows, input, within, copied);
             rest
         }
     }
@@ -420,17 +423,22 @@ pub fn draw_item(head: &[u8], table: &[u32], row: ItemRow) {
     derived::resolve(table, &mut rows);
     let s = sizing::output_in(table, row);
     let m = margins_of(head, table, &rows, 16, row);
-    let scale = canvas::scale_of(canvas::uncut(s, m));
+    let scale = canvas::scale_of(layout::uncut(s, m));
     canvas::open_page(1000);
     put_title(head, table, row);
     canvas::open_picture(s, m, scale);
     let lying = Lying {
-        part: place::whole(s),
+        part: layout::whole(s),
         pose: Pose(0),
         around: true,
         copies: 0,
+        scale,
     };
-    let left = draw_output(head, table, &rows, 16, row, lying, scale, 4096);
+    let limit = Limit {
+        down: 16,
+        left: 4096,
+    };
+    let left = draw_output(head, table, &rows, limit, row, lying);
     canvas::close_picture(s, scale);
     canvas::close_page(0 < left);
 }

@@ -1,4 +1,3 @@
-pub mod OpenedLaws
 pub mod QuestionLaws
 pub mod TraceLaws
 pub mod PropertyLaws

@@ -1,29 +1,32 @@
--- What each public function promises, whole: for all heads, totals, tables, lists and numbers asked, the answer and every word that is left. The contracts cite these.
---   OpenedGiven, VerdictGiven, SizeGiven, TraceGiven, SourcesGiven, OrientationGiven, AskedGiven, PropertyGiven, and TransformsGiven, which reads no file
--- In each, r is what is returned, `left` the table afterwards, and `list` or `told` what was lent beside it, before and after.
+-- What each public function promises, whole: for all heads, totals, tables, lists and numbers asked, the answer and
+-- every word that is left. The contracts cite these.
+--   VerdictGiven, SizeGiven, TraceGiven, SourcesGiven, OrientationGiven, AskedGiven, PropertyGiven, and TransformsGiven,
+--   which reads no file
+-- In each, r is what is returned, `left` the table afterwards, and `list` what was lent beside it, before and after,
+-- and `told` the two numbers that carry a refusal.
 use Prim.Native.Nat.{ℕ}
 use mathlib.Core.Path.{_≡_}
 use mathlib.Core.List.{List}
 use lib.ListN.{length}
 use Rattle.pictures.specs.declared.Point.{Point}
-use Rattle.rules.specs.Questions.{after, listAfter}
-use Rattle.rules.specs.Questions as Q
+use Rattle.rules.specs.Opening.{after}
+use Rattle.questions.specs.Questions.{listAfter}
+use Rattle.questions.specs.Questions as Q
+use Rattle.asked.specs.declared.FileVerdict.{FileVerdict}
+use Rattle.asked.specs.declared.Sized.{Sized}
+use Rattle.asked.specs.declared.PropertyAsked.{PropertyAsked}
+use Rattle.asked.specs.Told.{toldVerdict, toldSized, toldAsked}
+use Rattle.traced.specs.declared.Traced.{Traced}
+use Rattle.traced.specs.Told.{toldTraced}
+use Rattle.sourced.specs.declared.Listed.{Listed}
+use Rattle.sourced.specs.Told.{toldListed}
+use Rattle.facing.specs.declared.Oriented.{Oriented}
 use Rattle.facing.specs.declared.TransformList.{TransformList}
 use Rattle.facing.specs.Orientation.{orientation, transformsIn}
-use Rattle.facing.specs.Told.{toldTransforms}
-use Rattle.still.specs.declared.Opened.{Opened}
-use Rattle.still.specs.declared.FileVerdict.{FileVerdict}
-use Rattle.still.specs.declared.Sized.{Sized}
-use Rattle.still.specs.declared.Traced.{Traced}
-use Rattle.still.specs.declared.Listed.{Listed}
-use Rattle.still.specs.declared.Oriented.{Oriented}
-use Rattle.still.specs.declared.PropertyAsked.{PropertyAsked}
-use Rattle.still.specs.Told.{toldOpened, toldVerdict, toldSized, toldTraced, toldListed, toldOriented, indexOf, toldAsked, toldPart, toldFault}
+use Rattle.facing.specs.Told.{toldOriented, toldTransforms}
+use Rattle.still.specs.Told.{indexOf, toldPart, toldFault}
 
 module _ (head : List ℕ) (total : ℕ) (table : List ℕ) where
-  abbrev pub OpenedGiven : Opened → List ℕ → Type 0
-  OpenedGiven r left = (r ≡ toldOpened (Q.opened (length table) total head)) × (left ≡ after total head table)
-
   abbrev pub VerdictGiven : FileVerdict → List ℕ → Type 0
   VerdictGiven r left = (r ≡ toldVerdict (Q.verdict (length table) total head)) × (left ≡ after total head table)
 
@@ -44,10 +47,10 @@ module _ (head : List ℕ) (total : ℕ) (table : List ℕ) where
   abbrev pub AskedGiven : ℕ → ℕ → PropertyAsked → List ℕ → Type 0
   AskedGiven id k r left = (r ≡ toldAsked (indexOf (length table) total head id k)) × (left ≡ after total head table)
 
-  abbrev pub PropertyGiven : ℕ → ℕ → List ℕ → List ℕ → List ℕ → List ℕ → Type 0
-  PropertyGiven id k told part told-left left =
+  abbrev pub PropertyGiven : ℕ → ℕ → List ℕ → List ℕ → List ℕ → Type 0
+  PropertyGiven id k part told left =
       (part ≡ toldPart (Q.property (length table) total head id k))
-      × ((told-left ≡ toldFault told (Q.property (length table) total head id k)) × (left ≡ after total head table))
+      × ((told ≡ toldFault (Q.property (length table) total head id k)) × (left ≡ after total head table))
 
 abbrev pub TransformsGiven : ℕ → TransformList → Type 0
 TransformsGiven n r = r ≡ toldTransforms (transformsIn n)

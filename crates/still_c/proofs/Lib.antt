@@ -1,3 +1,1 @@
-pub mod OutLaws
 pub mod PartLaws
-pub mod OrientationLaws

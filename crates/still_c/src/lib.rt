@@ -1,50 +1,25 @@
-// The questions for C. `out` gets eight numbers: a refusal's number and place, or 0 and 0 and then the answer's values; the rest is 0.
+// The questions for C. `out` gets eight numbers (crate `out`).
 ghost use mathlib.Core.Path.{_≡_};
-ghost use mathlib.Core.List.{List, _++_};
-ghost use Prim.Native.Nat.{ℕ, _<_, _≤_};
+ghost use mathlib.Core.List.{List};
+ghost use Prim.Native.Nat.{ℕ, _<_};
 ghost use lib.ListN.{length};
-ghost use Rattle.boxes.specs.Answer.{Answer, ok};
-ghost use Rattle.contents.specs.File.{File};
-ghost use Rattle.rules.specs.Places.{placesIn};
-ghost use Rattle.rules.specs.Words.{wordsOf};
-ghost use Rattle.rules.specs.Questions.{after, partOf};
-ghost use Rattle.rules.specs.Questions as Q;
-ghost use Rattle.views.specs.View.{TableOf};
-ghost use Rattle.facing.specs.Orientation as Orientation;
-ghost use Rattle.facing.specs.Told.{toldTransform, toldTransforms};
-ghost use Rattle.still.specs.Told.{toldVerdict, toldSized, toldTraced, toldListed, toldOriented, toldAsked, indexOf};
-ghost use Rattle.still_c.specs.Told.{outRefused, outVerdict, outSized, outTraced, outListed, outPart, outOrientation, kindNumber, valueIn, outTransforms, VerdictGiven, SizeGiven, TraceGiven, SourcesGiven, PropertyGiven, OrientationGiven, TransformsGiven};
-use boxes::Refusal;
-use facing::Transform;
-use facing::TransformList;
+ghost use Rattle.rules.specs.Opening.{after};
+ghost use Rattle.questions.specs.Questions as Q;
+ghost use Rattle.asked.specs.Told.{toldAsked};
+ghost use Rattle.out.specs.Out.{outPart};
+ghost use Rattle.still.specs.Told.{indexOf};
+ghost use Rattle.still_c.specs.Given.{
+  VerdictGiven,
+  SizeGiven,
+  TraceGiven,
+  SourcesGiven,
+  PropertyGiven,
+  OrientationGiven,
+  TransformsGiven,
+};
+use asked::PropertyAsked;
 use pictures::Point;
-use still::FileVerdict;
-use still::Listed;
-use still::Oriented;
-use still::PropertyAsked;
-use still::Sized;
-use still::Traced;
 use table::ItemId;
-use table::PropertyIndex;
-use table::Table;
-
-fn refused_numbers(f: Refusal) -> [u64; 8]
-    ensures { λ r. ⌜ r ≡ outRefused (f .number) (f .place) ⌝ }
-{
-    [f.number as u64, f.place, 0, 0, 0, 0, 0, 0]
-}
-
-// Item count, primary item.
-fn verdict_numbers(v: FileVerdict) -> [u64; 8]
-    ensures { λ r. ⌜ ((m : Answer Q.Verdict) → v ≡ toldVerdict m → r ≡ outVerdict m) ⌝ }
-{
-    match v {
-        FileVerdict::Refused(f) => refused_numbers(f),
-        FileVerdict::Accepted { items, primary } => {
-            [0, 0, items as u64, primary.0 as u64, 0, 0, 0, 0]
-        }
-    }
-}
 
 // Whether the file is accepted.
 #[no_mangle]
@@ -52,32 +27,7 @@ pub extern "C" fn still_verdict(head: &[u8], total: u64, table: &mut [u32], out:
     ensures { λ _. ⌜ VerdictGiven (now (head .entry)) total (now (table .entry)) (now (out .exit)) (now (table .exit)) ⌝ }
 {
     let v = still::verdict(head, total, table);
-    *out = verdict_numbers(v);
-}
-
-// Reconstructed width and height, output width and height, depth.
-fn sized_numbers(s: Sized) -> [u64; 8]
-    ensures { λ r. ⌜ ((m : Answer Q.Sized) → s ≡ toldSized m → r ≡ outSized m) ⌝ }
-{
-    match s {
-        Sized::Refused(f) => refused_numbers(f),
-        Sized::Is {
-            wide,
-            high,
-            output_wide,
-            output_high,
-            depth,
-        } => [
-            0,
-            0,
-            wide as u64,
-            high as u64,
-            output_wide as u64,
-            output_high as u64,
-            depth as u64,
-            0,
-        ],
-    }
+    *out = out::verdict_numbers(v);
 }
 
 // The sizes and the depth of an item.
@@ -92,22 +42,7 @@ pub extern "C" fn still_size(
     ensures { λ _. ⌜ SizeGiven (now (head .entry)) total (now (table .entry)) item (now (out .exit)) (now (table .exit)) ⌝ }
 {
     let s = still::size(head, total, table, ItemId(item));
-    *out = sized_numbers(s);
-}
-
-// 1 for a pixel or 2 for a fill, then the item, x and y there, and the items passed.
-fn traced_numbers(t: Traced) -> [u64; 8]
-    ensures { λ r. ⌜ ((m : Answer Q.Found) → t ≡ toldTraced m → r ≡ outTraced m) ⌝ }
-{
-    match t {
-        Traced::Refused(f) => refused_numbers(f),
-        Traced::Pixel { item, x, y, passed } => {
-            [0, 0, 1, item.0 as u64, x as u64, y as u64, passed as u64, 0]
-        }
-        Traced::Fill { item, x, y, passed } => {
-            [0, 0, 2, item.0 as u64, x as u64, y as u64, passed as u64, 0]
-        }
-    }
+    *out = out::sized_numbers(s);
 }
 
 // Where the output pixel (x, y) of an item comes from.
@@ -124,17 +59,7 @@ pub extern "C" fn still_trace(
     ensures { λ _. ⌜ TraceGiven (now (head .entry)) total (now (table .entry)) item x y (now (out .exit)) (now (table .exit)) ⌝ }
 {
     let t = still::trace(head, total, table, ItemId(item), Point { x, y });
-    *out = traced_numbers(t);
-}
-
-// How many IDs were written.
-fn listed_numbers(l: Listed) -> [u64; 8]
-    ensures { λ r. ⌜ ((m : Answer (List ℕ)) → l ≡ toldListed m → r ≡ outListed m) ⌝ }
-{
-    match l {
-        Listed::Refused(f) => refused_numbers(f),
-        Listed::Is(count) => [0, 0, count as u64, 0, 0, 0, 0, 0],
-    }
+    *out = out::traced_numbers(t);
 }
 
 // The coded items that an item needs, into `list`.
@@ -147,33 +72,22 @@ pub extern "C" fn still_sources(
     list: &mut [u32],
     out: &mut [u64; 8],
 )
-    ensures { λ _. ⌜ SourcesGiven (now (head .entry)) total (now (table .entry)) item (now (list .entry)) (now (out .exit)) (now (list .exit)) (now (table .exit)) ⌝ }
+    ensures { λ _. ⌜ SourcesGiven (now (head .entry)) total (now (table .entry)) item (now (list .entry))
+        (now (out .exit)) (now (list .exit)) (now (table .exit)) ⌝ }
 {
     let l = still::sources(head, total, table, ItemId(item), list);
-    *out = listed_numbers(l);
+    *out = out::listed_numbers(l);
 }
 
-// The offset and the length of a property's box, by its record in the table of an accepted file; 0 and 0 for index 0.
-fn part_numbers(table: &[u32], index: PropertyIndex) -> [u64; 8]
-    ensures { λ r. ⌜ ((total : ℕ) (head x : List ℕ) (f : File) → now (table .entry) ≡ wordsOf total head f ++ x → TableOf (now (table .entry)) head (placesIn total head) f → index .0 ≤ length (f .properties) → r ≡ outPart (ok (partOf (placesIn total head) f (index .0)))) ⌝ }
-{
-    let k = index.0;
-    if k == 0 {
-        return [0; 8];
-    }
-    let w = Table::PROPERTIES + Table::PROPERTY_WORDS * ((k - 1) as usize);
-    let offset = table::word(table, w + 1);
-    let size = table::word(table, w + 2);
-    [0, 0, offset as u64, size as u64, 0, 0, 0, 0]
-}
-
-// The same for the property that was asked for, of any file.
+// The offset and the length of the property box that was asked for, of any file.
 fn property_numbers(table: &[u32], a: PropertyAsked) -> [u64; 8]
-    ensures { λ r. ⌜ ((total : ℕ) (head lent : List ℕ) (item k : ℕ) → total < 18446744073709551616 → a ≡ toldAsked (indexOf (length lent) total head item k) → now (table .entry) ≡ after total head lent → r ≡ outPart (Q.property (length lent) total head item k)) ⌝ }
+    ensures { λ r. ⌜ ((total : ℕ) (head lent : List ℕ) (item k : ℕ) → total < 18446744073709551616 →
+        a ≡ toldAsked (indexOf (length lent) total head item k) → now (table .entry) ≡ after total head lent →
+        r ≡ outPart (Q.property (length lent) total head item k)) ⌝ }
 {
     match a {
-        PropertyAsked::Refused(f) => refused_numbers(f),
-        PropertyAsked::Is(index) => part_numbers(table, index),
+        PropertyAsked::Refused(f) => out::refused_numbers(f),
+        PropertyAsked::Is(index) => out::part_numbers(table, index),
     }
 }
 
@@ -193,16 +107,6 @@ pub extern "C" fn still_property(
     *out = property_numbers(&*table, a);
 }
 
-// The number of 1 to 8.
-fn oriented_numbers(o: Oriented) -> [u64; 8]
-    ensures { λ r. ⌜ ((m : Answer ℕ) → o ≡ toldOriented m → r ≡ outOrientation m) ⌝ }
-{
-    match o {
-        Oriented::Refused(f) => refused_numbers(f),
-        Oriented::Is(n) => [0, 0, n as u64, 0, 0, 0, 0, 0],
-    }
-}
-
 // The orientation of an item.
 #[no_mangle]
 pub extern "C" fn still_orientation(
@@ -215,50 +119,7 @@ pub extern "C" fn still_orientation(
     ensures { λ _. ⌜ OrientationGiven (now (head .entry)) total (now (table .entry)) item (now (out .exit)) (now (table .exit)) ⌝ }
 {
     let o = still::orientation(head, total, table, ItemId(item));
-    *out = oriented_numbers(o);
-}
-
-// 1 for an `irot`, 2 for an `imir`.
-fn kind_number(t: Transform) -> u64
-    ensures { λ r. ⌜ ((x : Orientation.Transform) → t ≡ toldTransform x → r ≡ kindNumber x) ⌝ }
-{
-    match t {
-        Transform::Irot(_) => 1,
-        Transform::Imir(_) => 2,
-    }
-}
-
-// The value that its box holds.
-fn value_in(t: Transform) -> u64
-    ensures { λ r. ⌜ ((x : Orientation.Transform) → t ≡ toldTransform x → r ≡ valueIn x) ⌝ }
-{
-    match t {
-        Transform::Irot(a) => a as u64,
-        Transform::Imir(a) => a as u64,
-    }
-}
-
-// How many, then kind and value of each.
-fn transforms_numbers(l: TransformList) -> [u64; 8]
-    ensures { λ r. ⌜ ((m : Answer (List Orientation.Transform)) → l ≡ toldTransforms m → r ≡ outTransforms m) ⌝ }
-{
-    match l {
-        TransformList::Refused(f) => refused_numbers(f),
-        TransformList::None => [0; 8],
-        TransformList::One(a) => [0, 0, 1, kind_number(a), value_in(a), 0, 0, 0],
-        TransformList::Two(a, b) => {
-            [
-                0,
-                0,
-                2,
-                kind_number(a),
-                value_in(a),
-                kind_number(b),
-                value_in(b),
-                0,
-            ]
-        }
-    }
+    *out = out::oriented_numbers(o);
 }
 
 // The transforms of an orientation.
@@ -267,5 +128,5 @@ pub extern "C" fn still_transforms(orientation: u32, out: &mut [u64; 8])
     ensures { λ _. ⌜ TransformsGiven orientation (now (out .exit)) ⌝ }
 {
     let l = still::transforms(orientation);
-    *out = transforms_numbers(l);
+    *out = out::transforms_numbers(l);
 }

@@ -51,14 +51,16 @@ use Rattle.tracing.proofs.TileLaws.{derived-by}
 -- toldSide
 side-along : (o : Signed) (v n a : ℕ) → side.Along a ≡ toldSide o v n → (onSide o v n ≡ true) × (alongSide o v ≡ a)
 unfolding toldSide
-side-along o v n a = both (λ (m : SideFound). side.Along a ≡ m → (onSide o v n ≡ true) × (alongSide o v ≡ a)) _ _ _ (λ q e. let z : alongSide o v ≡ a = cc in (q, z)) (λ q e. let z : _≡_ {A = ℕ} 0 1 = cc in absurd (omega arith))
+side-along o v n a = both (λ (m : SideFound). side.Along a ≡ m → (onSide o v n ≡ true) × (alongSide o v ≡ a)) _ _ _
+    (λ q e. let z : alongSide o v ≡ a = cc in (q, z)) (λ q e. let z : _≡_ {A = ℕ} 0 1 = cc in absurd (omega arith))
 
 side-off : (o : Signed) (v n : ℕ) → side.Off ≡ toldSide o v n → onSide o v n ≡ false
 unfolding toldSide
 side-off o v n = both (λ (m : SideFound). side.Off ≡ m → onSide o v n ≡ false) _ _ _ (λ q e. let z : _≡_ {A = ℕ} 0 1 = cc in absurd (omega arith)) (λ q e. q)
 
 -- toldSide of the number that the bytes b spell
-pub side-read : (b : List ℕ) (at w v n o : ℕ) (x : SideFound) → Bytes b → (w ≡ 2) ⊎ (w ≡ 4) → o ≡ beAt b at w → ((w ≡ 2) ⊎ (w ≡ 4) → o < 256 ^ w → x ≡ toldSide (signed w o) v n) → x ≡ toldSide (signed w (beAt b at w)) v n
+pub side-read : (b : List ℕ) (at w v n o : ℕ) (x : SideFound) → Bytes b → (w ≡ 2) ⊎ (w ≡ 4) → o ≡ beAt b at w →
+    ((w ≡ 2) ⊎ (w ≡ 4) → o < 256 ^ w → x ≡ toldSide (signed w o) v n) → x ≡ toldSide (signed w (beAt b at w)) v n
 side-read b at w v n o x given two e f = f two (rw e (be-below b at w given)) ∙ ap (λ (o : ℕ). toldSide (signed w o) v n) e
 
 -- toldCovered: by the two sides
@@ -69,9 +71,11 @@ module _ (o : Offset) (s : Size) (p : Point) where
 
   pub covered-off-y : side.Off ≡ toldSide (o .down) (p .y) (s .high) → covered.Off ≡ toldCovered o s p
   unfolding toldCovered
-  covered-off-y e = sym (pick-no _ _ (and-none (onSide (o .right) (p .x) (s .wide)) (onSide (o .down) (p .y) (s .high)) (side-off (o .down) (p .y) (s .high) e)))
+  covered-off-y e = sym (pick-no _ _ (and-none (onSide (o .right) (p .x) (s .wide)) (onSide (o .down) (p .y) (s .high))
+      (side-off (o .down) (p .y) (s .high) e)))
 
-  pub covered-on : (x y : ℕ) → side.Along x ≡ toldSide (o .right) (p .x) (s .wide) → side.Along y ≡ toldSide (o .down) (p .y) (s .high) → covered.At (point x y) ≡ toldCovered o s p
+  pub covered-on : (x y : ℕ) → side.Along x ≡ toldSide (o .right) (p .x) (s .wide) →
+      side.Along y ≡ toldSide (o .down) (p .y) (s .high) → covered.At (point x y) ≡ toldCovered o s p
   unfolding toldCovered
   covered-on x y ex ey =
       let a = side-along (o .right) (p .x) (s .wide) x ex in
@@ -80,7 +84,10 @@ module _ (o : Offset) (s : Size) (p : Point) where
 
   told-on : (q : Point) → covered.At q ≡ toldCovered o s p → (covers o s p ≡ true) × (point (alongSide (o .right) (p .x)) (alongSide (o .down) (p .y)) ≡ q)
   unfolding toldCovered
-  told-on q = both (λ (m : Covered). covered.At q ≡ m → (covers o s p ≡ true) × (point (alongSide (o .right) (p .x)) (alongSide (o .down) (p .y)) ≡ q)) _ _ _ (λ c e. let z : point (alongSide (o .right) (p .x)) (alongSide (o .down) (p .y)) ≡ q = cc in (c, z)) (λ c e. let z : _≡_ {A = ℕ} 0 1 = cc in absurd (omega arith))
+  told-on q = both (λ (m : Covered). covered.At q ≡ m → (covers o s p ≡ true) ×
+      (point (alongSide (o .right) (p .x)) (alongSide (o .down) (p .y)) ≡ q)) _ _ _ (λ c e. let z : point
+      (alongSide (o .right) (p .x)) (alongSide (o .down) (p .y)) ≡ q = cc in (c, z)) (λ c e. let z : _≡_ {A = ℕ} 0 1 =
+      cc in absurd (omega arith))
 
   told-off : covered.Off ≡ toldCovered o s p → covers o s p ≡ false
   unfolding toldCovered
@@ -88,7 +95,10 @@ module _ (o : Offset) (s : Size) (p : Point) where
 
 -- layerAt: the last of the first inputs lies on top
 layer-last : (s : Scene) (os : List Offset) (is : List ℕ) (k : ℕ) (p : Point) (b : Trace.Source) (d : Offset) → k < length os → k < length is
-    → layerAt s (take (suc k) os) (take (suc k) is) p b ≡ pick (covers (getD os k d) (outputOf (pictureAt s (getD is k 0))) p) (input (getD is k 0) (point (alongSide (getD os k d .right) (p .x)) (alongSide (getD os k d .down) (p .y)))) (layerAt s (take k os) (take k is) p b)
+    → layerAt s (take (suc k) os) (take (suc k) is) p b ≡ pick
+    (covers (getD os k d) (outputOf (pictureAt s (getD is k 0))) p)
+    (input (getD is k 0) (point (alongSide (getD os k d .right) (p .x)) (alongSide (getD os k d .down) (p .y))))
+    (layerAt s (take k os) (take k is) p b)
 unfolding layerAt
 layer-last s [] is k p b d h l = absurd (omega arith)
 layer-last s (o ∷ os) [] k p b d h l = absurd (omega arith)
@@ -139,7 +149,9 @@ module _ {t head : List ℕ} {total : ℕ} {f : File} (v : Shown t head total f)
     overlay-all = layer-all s (o .offsets) (q .inputs) p n offsets-many (scene-inputs total head f r i ∙ sym c)
 
     -- input k, in the row x, with the output size z
-    module _ (w : ℕ) (ew : w ≡ fieldBytes (beAt b 1 1)) (m k : ℕ) (down : m ≡ suc k) (h : k < n) (x : ItemRow) (ex : k < length targets → x .0 ≡ rowOf (getD targets k 0) (f .items)) (z : Size) (ez : (s : Scene) → SizesAre t s → x .0 < length s → z ≡ outputOf (pictureAt s (x .0)))
+    module _ (w : ℕ) (ew : w ≡ fieldBytes (beAt b 1 1)) (m k : ℕ) (down : m ≡ suc k) (h : k < n) (x : ItemRow)
+        (ex : k < length targets → x .0 ≡ rowOf (getD targets k 0) (f .items)) (z : Size)
+        (ez : (s : Scene) → SizesAre t s → x .0 < length s → z ≡ outputOf (pictureAt s (x .0)))
         (inv : layerAt s (o .offsets) (q .inputs) p blank ≡ layerAt s (take m (o .offsets)) (take m (q .inputs)) p blank) where
       abbrev here : Offset
       here = offsetAt b w (10 + 2 * w + 2 * w * k)
@@ -148,7 +160,8 @@ module _ {t head : List ℕ} {total : ℕ} {f : File} (v : Shown t head total f)
       listed = omega arith
 
       offset-here : getD (o .offsets) k here ≡ here
-      offset-here = rw ew (overlay-offset 0 b n o e k h (offsetAt b (fieldBytes (beAt b 1 1)) (10 + 2 * fieldBytes (beAt b 1 1) + 2 * fieldBytes (beAt b 1 1) * k)))
+      offset-here = rw ew (overlay-offset 0 b n o e k h
+          (offsetAt b (fieldBytes (beAt b 1 1)) (10 + 2 * fieldBytes (beAt b 1 1) + 2 * fieldBytes (beAt b 1 1) * k)))
 
       row-here : x .0 ≡ getD (q .inputs) k 0
       row-here = ex listed ∙ sym (scene-input total head f r i k listed)
@@ -156,7 +169,9 @@ module _ {t head : List ℕ} {total : ℕ} {f : File} (v : Shown t head total f)
       size-here : z ≡ outputOf (pictureAt s (getD (q .inputs) k 0))
       size-here = scene-input-size total head f r i (v .view) (v .sizes) k listed (x .0) (ex listed) z ez
 
-      overlay-next : layerAt s (o .offsets) (q .inputs) p blank ≡ pick (covers here z p) (input (x .0) (point (alongSide (here .right) (p .x)) (alongSide (here .down) (p .y)))) (layerAt s (take k (o .offsets)) (take k (q .inputs)) p blank)
+      overlay-next : layerAt s (o .offsets) (q .inputs) p blank ≡ pick (covers here z p)
+          (input (x .0) (point (alongSide (here .right) (p .x)) (alongSide (here .down) (p .y))))
+          (layerAt s (take k (o .offsets)) (take k (q .inputs)) p blank)
       overlay-next =
           inv
           ∙ ap (λ (m : ℕ). layerAt s (take m (o .offsets)) (take m (q .inputs)) p blank) down
@@ -172,15 +187,19 @@ module _ {t head : List ℕ} {total : ℕ} {f : File} (v : Shown t head total f)
         overlay-off g = overlay-next ∙ pick-no _ _ (told-off here z p (sym g ∙ told))
 
 -- what read_overlay says of the body
-pub overlay-read : (b : List ℕ) (n w h k : ℕ) → layers.Is w h k ≡ toldOverlay b (whole (iovl-form n) 0 b) → (((k ≡ 2) ⊎ (k ≡ 4)) × (length b ≡ 10 + 2 * k + 2 * k * n) × (k ≡ fieldBytes (beAt b 1 1)))
+pub overlay-read : (b : List ℕ) (n w h k : ℕ) → layers.Is w h k ≡ toldOverlay b (whole (iovl-form n) 0 b) →
+    (((k ≡ 2) ⊎ (k ≡ 4)) × (length b ≡ 10 + 2 * k + 2 * k * n) × (k ≡ fieldBytes (beAt b 1 1)))
 overlay-read b n w h k e =
     let o = told-overlay b _ w h k (sym e) in
     let x = overlay-bytes 0 b n (o .overlay) (o .is) in
-    subst (λ (k : ℕ). ((k ≡ 2) ⊎ (k ≡ 4)) × (length b ≡ 10 + 2 * k + 2 * k * n) × (k ≡ fieldBytes (beAt b 1 1))) (o .bytes) (two-or-four (beAt b 1 1), x .0, refl)
+    subst (λ (k : ℕ). ((k ≡ 2) ⊎ (k ≡ 4)) × (length b ≡ 10 + 2 * k + 2 * k * n) × (k ≡ fieldBytes (beAt b 1 1)))
+    (o .bytes) (two-or-four (beAt b 1 1), x .0, refl)
 
 -- layersOf
 module _ (total : ℕ) (head : List ℕ) (f : File) (item : Item) (r : Recipe) where
-  layers-read : layersOf total head f item ≡ ok r → (o : Overlay) × (whole (iovl-form (length (targetsOf f (item .id)))) 0 (bodyOr (bodyOf total head f item)) ≡ ok o) × (r ≡ Layers o)
+  layers-read : layersOf total head f item ≡ ok r → (o : Overlay) ×
+      (whole (iovl-form (length (targetsOf f (item .id)))) 0 (bodyOr (bodyOf total head f item)) ≡ ok o) ×
+      (r ≡ Layers o)
   unfolding layersOf bodyOr
   layers-read m =
       let x = body-read _ _ 17 _ _ Layers r m in
@@ -188,7 +207,9 @@ module _ (total : ℕ) (head : List ℕ) (f : File) (item : Item) (r : Recipe) w
       (x .2, rw e (x .3), sym (x .5))
 
 -- Shown: an `iovl` item whose body is b, of n inputs
-module _ {t head : List ℕ} {total : ℕ} {f : File} (v : Shown t head total f) (r : ℕ) (h : r < length (f .items)) (e : itemAt f r .type ≡ iovl) (b : List ℕ) (body : b ≡ bodyOr (bodyOf total head f (itemAt f r))) (n : ℕ) (c : n ≡ length (targetsOf f (idOf f r))) where
+module _ {t head : List ℕ} {total : ℕ} {f : File} (v : Shown t head total f) (r : ℕ) (h : r < length (f .items))
+    (e : itemAt f r .type ≡ iovl) (b : List ℕ) (body : b ≡ bodyOr (bodyOf total head f (itemAt f r))) (n : ℕ)
+    (c : n ≡ length (targetsOf f (idOf f r))) where
   layers-kept : (o : Overlay) × (whole (iovl-form n) 0 b ≡ ok o) × (pictureAt (sceneOf total head f) r .recipe ≡ Layers o)
   layers-kept =
       let x = recipe-ok total head f r (ap image e) (v .fed r h) in
@@ -199,6 +220,9 @@ module _ {t head : List ℕ} {total : ℕ} {f : File} (v : Shown t head total f)
   pub layers-never : {A : Type 0} → layers.Wrong ≡ toldOverlay b (whole (iovl-form n) 0 b) → A
   layers-never w = let x = layers-kept in absurd (refused-ok _ (x .0) (told-no-overlay b _ (sym w)) (x .1))
 
-  pub layers-source : (p : Point) (x : Source) → ((o : Overlay) → whole (iovl-form n) 0 b ≡ ok o → n ≡ length (targetsOf f (idOf f r)) → x ≡ toldSource (layerAt (sceneOf total head f) (o .offsets) (pictureAt (sceneOf total head f) r .inputs) p blank)) → x ≡ toldSource (sourceOf (sceneOf total head f) r p)
+  pub layers-source : (p : Point) (x : Source) → ((o : Overlay) → whole (iovl-form n) 0 b ≡ ok o →
+      n ≡ length (targetsOf f (idOf f r)) → x ≡ toldSource
+      (layerAt (sceneOf total head f) (o .offsets) (pictureAt (sceneOf total head f) r .inputs) p blank)) →
+      x ≡ toldSource (sourceOf (sceneOf total head f) r p)
   unfolding sourceBy
   layers-source p x g = let k = layers-kept in g (k .0) (k .1) c ∙ rw (k .2)

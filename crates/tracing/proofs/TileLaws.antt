@@ -43,7 +43,8 @@ use Rattle.tracing.specs.Told.{Shown, toldSource}
 use Rattle.tracing.specs.declared.Source.the-variants as source
 
 -- the number of a tile fits in 64 bits
-pub tile-number : (x y w h c : ℕ) → x < 4294967296 → y < 4294967296 → c < 4294967296 → (y / h * c < 18446744073709551616) × (y / h * c + x / w < 18446744073709551616)
+pub tile-number : (x y w h c : ℕ) → x < 4294967296 → y < 4294967296 → c < 4294967296 →
+    (y / h * c < 18446744073709551616) × (y / h * c + x / w < 18446744073709551616)
 tile-number x y w h c i j k =
     let a = div-le-self x w in
     let b = div-le-self y h in
@@ -52,7 +53,8 @@ tile-number x y w h c i j k =
 
 -- recipeOf of a derived item, by its type
 module _ (total : ℕ) (head : List ℕ) (f : File) (item : Item) (r : Recipe) (e : recipeOf total head f item ≡ ok r) where
-  pub derived-by : derived (item .type) ≡ true → pick (eqb (item .type) iden) (copyOf total head f item) (pick (eqb (item .type) grid) (tilesOf total head f item) (layersOf total head f item)) ≡ ok r
+  pub derived-by : derived (item .type) ≡ true → pick (eqb (item .type) iden) (copyOf total head f item)
+      (pick (eqb (item .type) grid) (tilesOf total head f item) (layersOf total head f item)) ≡ ok r
   unfolding recipeFor
   derived-by d = then-ok _ _ r (sym (pick-yes _ _ d) ∙ rule-17-ok (item .id) (recipeFor total head f item) r e) .2
 
@@ -63,7 +65,8 @@ module _ (total : ℕ) (head : List ℕ) (f : File) (item : Item) (r : Recipe) (
   tiles-by : item .type ≡ grid → (b : List ℕ) × (bodyOf total head f item ≡ ok b) × (g : Grid) × (whole grid-form 0 b ≡ ok g) × (r ≡ Tiles g)
   unfolding tilesOf
   tiles-by q =
-      let x = body-read _ _ 17 _ _ Tiles r (sym (pick-no _ _ (ap (λ (k : ℕ). eqb k iden) q) ∙ pick-yes _ _ (eq-eqb (item .type) grid q)) ∙ derived-by (ap (λ (k : ℕ). derived k) q)) in
+      let x = body-read _ _ 17 _ _ Tiles r (sym (pick-no _ _ (ap (λ (k : ℕ). eqb k iden) q) ∙
+      pick-yes _ _ (eq-eqb (item .type) grid q)) ∙ derived-by (ap (λ (k : ℕ). derived k) q)) in
       (x .0, x .1, x .2, x .3, sym (x .5))
 
 -- Tiles is not Opaque
@@ -91,7 +94,8 @@ module _ {t head : List ℕ} {total : ℕ} {f : File} (d : Shown t head total f)
     copied-one : length targets ≡ 1
     copied-one = subst (λ (x : Recipe). Shaped x targets) copied (inputs-fed total head f r copy-drawn (d .fed r h) .0)
 
-    pub copied-source : (k : ItemRow) (p : Point) → (0 < length targets → k .0 ≡ rowOf (getD targets 0 0) (f .items)) → source.Input k p ≡ toldSource (sourceOf s r p)
+    pub copied-source : (k : ItemRow) (p : Point) → (0 < length targets → k .0 ≡ rowOf (getD targets 0 0) (f .items)) →
+        source.Input k p ≡ toldSource (sourceOf s r p)
     unfolding sourceBy toldSource
     copied-source k p g =
         let l : 0 < length targets = omega (arith, copied-one) in
@@ -99,7 +103,8 @@ module _ {t head : List ℕ} {total : ℕ} {f : File} (d : Shown t head total f)
         ∙ sym (ap (λ (x : Recipe). toldSource (sourceBy s picture x p)) copied)
 
   -- `grid`: b is the body, read as x
-  module _ (q : itemAt f r .type ≡ grid) (b : List ℕ) (eb : b ≡ bodyOr (bodyOf total head f (itemAt f r))) (x : GridRead) (ex : x ≡ toldGrid (whole grid-form 0 b)) where
+  module _ (q : itemAt f r .type ≡ grid) (b : List ℕ) (eb : b ≡ bodyOr (bodyOf total head f (itemAt f r)))
+      (x : GridRead) (ex : x ≡ toldGrid (whole grid-form 0 b)) where
     grid-told : (g : Grid) × (x ≡ toldGrid (ok g)) × (picture .recipe ≡ Tiles g)
     unfolding bodyOr
     grid-told =
@@ -136,11 +141,13 @@ module _ {t head : List ℕ} {total : ℕ} {f : File} (d : Shown t head total f)
         let m : madeUp s picture (Tiles g) ≡ true = subst (λ (x : Recipe). madeUp s picture x ≡ true) q (is-made-up s picture (tiles-good .sizes)) in
         let k = and-both (allSize s (firstInput s picture) (picture .inputs)) _ m .1 in
         let l = and-both (covered g (firstInput s picture)) _ k in
-        let w = tile-in g (firstInput s picture) p (l .0) (subst (λ (z : Size). Inside z p) (same-size (picture .declared) (size (g .wide) (g .high)) (l .1)) i) in
+        let w = tile-in g (firstInput s picture) p (l .0)
+        (subst (λ (z : Size). Inside z p) (same-size (picture .declared) (size (g .wide) (g .high)) (l .1)) i) in
         (omega (arith, w .0, tiles-many .0), w .1)
 
     -- k is the row of the first input, z its output size
-    module _ (k : ℕ) (ek : 0 < length targets → k ≡ rowOf (getD targets 0 0) (f .items)) (z : Size) (ez : (s : Scene) → SizesAre t s → k < length s → z ≡ outputOf (pictureAt s k)) where
+    module _ (k : ℕ) (ek : 0 < length targets → k ≡ rowOf (getD targets 0 0) (f .items)) (z : Size)
+        (ez : (s : Scene) → SizesAre t s → k < length s → z ≡ outputOf (pictureAt s k)) where
       tile-read : z ≡ firstInput s picture
       tile-read = scene-input-size total head f r tiles-image (d .view) (d .sizes) 0 (tiles-many .1) k (ek (tiles-many .1)) z ez
 
@@ -151,14 +158,17 @@ module _ {t head : List ℕ} {total : ℕ} {f : File} (d : Shown t head total f)
       tile-high e = omega (arith, e, ap (λ (z : Size). z .high) tile-read, tiles-under .1 .in-y)
 
       abbrev Tiled : Size → ℕ → Type 0
-      Tiled z c = (x : ItemRow) → (p .y / z .high * c + p .x / z .wide < length targets → x .0 ≡ rowOf (getD targets (p .y / z .high * c + p .x / z .wide) 0) (f .items))
+      Tiled z c = (x : ItemRow) → (p .y / z .high * c + p .x / z .wide < length targets →
+          x .0 ≡ rowOf (getD targets (p .y / z .high * c + p .x / z .wide) 0) (f .items))
           → source.Input x (point (p .x % z .wide) (p .y % z .high)) ≡ toldSource (sourceOf s r p)
 
       tiled : Tiled (firstInput s picture) (g .columns)
       unfolding sourceBy tileAt toldSource
       tiled x w =
           let l = tiles-under .0 in
-          ap (λ (n : ℕ). source.Input (record { 0 = n }) (point (p .x % firstInput s picture .wide) (p .y % firstInput s picture .high))) (w l ∙ sym (scene-input total head f r tiles-image _ l))
+          ap (λ (n : ℕ). source.Input (record { 0 = n })
+          (point (p .x % firstInput s picture .wide) (p .y % firstInput s picture .high))) (w l ∙
+          sym (scene-input total head f r tiles-image _ l))
           ∙ sym (ap (λ (x : Recipe). toldSource (sourceBy s picture x p)) q)
 
       pub tiled-source : (c : ℕ) → g .columns ≡ c → Tiled z c

@@ -42,7 +42,8 @@ use Rattle.tracing.specs.declared.End.{End}
 use Rattle.tracing.specs.declared.End.the-variants as end
 
 -- recipeOf of an image item that is not derived
-plain-coded : (total : ℕ) (head : List ℕ) (f : File) (item : Item) (r : Recipe) → image (item .type) ≡ true → derived (item .type) ≡ false → recipeOf total head f item ≡ ok r → r ≡ Coded
+plain-coded : (total : ℕ) (head : List ℕ) (f : File) (item : Item) (r : Recipe) → image (item .type) ≡ true →
+    derived (item .type) ≡ false → recipeOf total head f item ≡ ok r → r ≡ Coded
 unfolding recipeFor
 plain-coded total head f item r i d m =
     let x = then-ok _ _ r (sym (pick-no _ _ d) ∙ rule-17-ok (item .id) (recipeFor total head f item) r m) in
@@ -72,7 +73,8 @@ told-input (input k p) j q e =
     rw (b, ap (λ (j : ItemRow). j .0) a)
 
 -- traced: no derivation is left to go down
-traced-last : (undo : Picture → Point → Point) (s : Scene) (n i : ℕ) (p : Point) (j : ℕ) (q : Point) → sourceOf s i p ≡ input j q → traced undo s 0 n i p ≡ record { end = fill i p; passed = n + 1 }
+traced-last : (undo : Picture → Point → Point) (s : Scene) (n i : ℕ) (p : Point) (j : ℕ) (q : Point) →
+    sourceOf s i p ≡ input j q → traced undo s 0 n i p ≡ record { end = fill i p; passed = n + 1 }
 unfolding traced follow
 traced-last undo s n i p j q e = rw e
 
@@ -97,7 +99,8 @@ module _ {t head : List ℕ} {total : ℕ} {f : File} (v : Shown t head total f)
     kept-good = good-picture s (v .good) (omega (arith, scene-many total head f)) (shaped-drawn _ _ (inputs-fed total head f r i (v .fed r h) .0))
 
     -- sourceOf of an item of none of the three derived types
-    pub coded-source : (itemAt f r .type ≡ iden → ⊥) → (itemAt f r .type ≡ grid → ⊥) → (itemAt f r .type ≡ iovl → ⊥) → (p : Point) → source.Here ≡ toldSource (sourceOf s r p)
+    pub coded-source : (itemAt f r .type ≡ iden → ⊥) → (itemAt f r .type ≡ grid → ⊥) → (itemAt f r .type ≡ iovl → ⊥) →
+        (p : Point) → source.Here ≡ toldSource (sourceOf s r p)
     unfolding sourceBy toldSource
     coded-source a b c p =
         let d : derived (itemAt f r .type) ≡ false = rw (ne-eqb _ iden a, ne-eqb _ grid b, ne-eqb _ iovl c) in
@@ -124,14 +127,17 @@ module _ {t head : List ℕ} {total : ℕ} {f : File} (v : Shown t head total f)
 
         -- y being the end of the trace from the input's output picture
         pub end-input : (d ≡ 0 → ⊥) → Inside (q .declared) p → (y : End)
-            → (j .0 < length (f .items) → image (itemAt f (j .0) .type) ≡ true → Inside (outputOf (pictureAt s (j .0))) a → y ≡ toldEnd (traced undoTurns s (d - 1) (n + 1) (j .0) (undoTurns (pictureAt s (j .0)) a)))
+            → (j .0 < length (f .items) → image (itemAt f (j .0) .type) ≡ true →
+            Inside (outputOf (pictureAt s (j .0))) a → y ≡ toldEnd
+            (traced undoTurns s (d - 1) (n + 1) (j .0) (undoTurns (pictureAt s (j .0)) a)))
             → y ≡ toldEnd (traced undoTurns s d n r p)
         end-input z l y g =
             let u = source-beneath kept-good p l _ beneath in
             let w = member-all _ (q .inputs) (kept-good .inputs-drawn) (j .0) (u .0) in
             let m : d ≡ suc (d - 1) = omega (arith, z) in
             g (omega (arith, w .0, scene-many total head f)) (drawn-image (j .0) (w .1)) (u .1)
-            ∙ sym (ap (λ (d : ℕ). toldEnd (traced undoTurns s d n r p)) m ∙ ap (λ (t : Traced). toldEnd t) (traced-input undoTurns s n r p (d - 1) (j .0) a beneath))
+            ∙ sym (ap (λ (d : ℕ). toldEnd (traced undoTurns s d n r p)) m ∙
+            ap (λ (t : Traced). toldEnd t) (traced-input undoTurns s n r p (d - 1) (j .0) a beneath))
 
     -- traced from the output pixel p: z is the size that the table has, a the point that the transforms lead back to
     module _ (d n : ℕ) (p : Point) (l : Inside (outputOf q) p) (z : Size) (ez : (s : Scene) → SizesAre t s → r < length s → z ≡ pictureAt s r .declared) where
@@ -144,7 +150,9 @@ module _ {t head : List ℕ} {total : ℕ} {f : File} (v : Shown t head total f)
       turns-is : turns ≡ q .turns
       turns-is = rw declared-is (sym (turns-at total head f r i))
 
-      pub end-output : (a : Point) → (AllFit turns z → Inside (sizeThrough turns z) p → a ≡ Turns.undone turns z p) → (y : End) → (Inside (q .declared) a → y ≡ toldEnd (traced undoTurns s d n r a)) → y ≡ toldEnd (traced undoTurns s d n r (undoTurns q p))
+      pub end-output : (a : Point) → (AllFit turns z → Inside (sizeThrough turns z) p → a ≡ Turns.undone turns z p) →
+          (y : End) → (Inside (q .declared) a → y ≡ toldEnd (traced undoTurns s d n r a)) →
+          y ≡ toldEnd (traced undoTurns s d n r (undoTurns q p))
       unfolding outputOf
       end-output a g y k =
           let b : a ≡ undoTurns q p = g (rw (turns-is, declared-is) (kept-good .fit)) (rw (turns-is, declared-is) l) ∙ rw (turns-is, declared-is) in

@@ -38,7 +38,8 @@ back-none : (s : Size) (p : Point) → LeadsBack [] s p p
 unfolding undone
 back-none s p fit i = refl
 
-back-turn : (t : Turn) (ts : List Turn) (s : Size) (p q r : Point) → LeadsBack ts (sizeAfter t s) p q → (Fits t s → Inside (sizeAfter t s) q → r ≡ back t s q) → LeadsBack (t ∷ ts) s p r
+back-turn : (t : Turn) (ts : List Turn) (s : Size) (p q r : Point) → LeadsBack ts (sizeAfter t s) p q →
+    (Fits t s → Inside (sizeAfter t s) q → r ≡ back t s q) → LeadsBack (t ∷ ts) s p r
 unfolding undone sizeThrough
 back-turn t ts s p q r h k fit i =
     let e = h (fit .1) i in
@@ -58,8 +59,10 @@ module _ {t head : List ℕ} {pl : Places} {f : File} (v : TableOf t head pl f) 
       (sym (ap (turnsOf s) (boxes-left v id j l k e) ∙ turns-other s _ _ (ap transform (sym (kind-said v id j l k e)) ∙ q))) h
 
   -- b is the box, and c its content
-  pub undone-read : (b c : List ℕ) → b ≡ getD (boxesOf f id) j [] → c ≡ bodyOf b → (u : Turn) → transform k ≡ true → (Sized k c → u ≡ turnBy s k c) → (z : Size) → z ≡ sizeAfter u s
-      → (o : Point) → LeadsBack (turnsOf z (drop (j + 1) (boxesOf f id))) z p o → (Fits u s → Inside (sizeAfter u s) o → r ≡ back u s o) → LeadsBack (turnsOf s (drop j (boxesOf f id))) s p r
+  pub undone-read : (b c : List ℕ) → b ≡ getD (boxesOf f id) j [] → c ≡ bodyOf b → (u : Turn) → transform k ≡ true →
+      (Sized k c → u ≡ turnBy s k c) → (z : Size) → z ≡ sizeAfter u s
+      → (o : Point) → LeadsBack (turnsOf z (drop (j + 1) (boxesOf f id))) z p o →
+      (Fits u s → Inside (sizeAfter u s) o → r ≡ back u s o) → LeadsBack (turnsOf s (drop j (boxesOf f id))) s p r
   undone-read b c eb ec u q g z ez o h w =
       let x = turn-read v id j l k e b c eb ec s u q g in
       let y : turnsOf s (drop j (boxesOf f id)) ≡ u ∷ turnsOf (sizeAfter u s) (drop (j + 1) (boxesOf f id)) =
@@ -67,4 +70,5 @@ module _ {t head : List ℕ} {pl : Places} {f : File} (v : TableOf t head pl f) 
       ∙ turns-turn s _ _ (ap transform (sym (kind-said v id j l k e)) ∙ q)
       ∙ ap (λ (t : Turn). t ∷ turnsOf (sizeAfter t s) (drop (j + 1) (boxesOf f id))) (sym x) in
       subst (λ (ts : List Turn). LeadsBack ts s p r) (sym y)
-      (back-turn u (turnsOf (sizeAfter u s) (drop (j + 1) (boxesOf f id))) s p o r (subst (λ (z : Size). LeadsBack (turnsOf z (drop (j + 1) (boxesOf f id))) z p o) ez h) w)
+      (back-turn u (turnsOf (sizeAfter u s) (drop (j + 1) (boxesOf f id))) s p o r
+      (subst (λ (z : Size). LeadsBack (turnsOf z (drop (j + 1) (boxesOf f id))) z p o) ez h) w)

@@ -33,7 +33,10 @@ use table::Table;
 
 // The point that p comes from through an item's transforms from association j on, the last one undone first. The picture has the size s before them.
 pub fn undone(head: &[u8], table: &[u32], row: ItemRow, j: usize, s: Size, p: Point) -> Point
-    ensures { λ r. ⌜ ((pl : Places) (f : File) → TableOf (now (table .entry)) (now (head .entry)) pl f → row .0 < length (f .items) → AllFit (turnsOf s (drop j (boxesOf f (idOf f (row .0))))) s → Inside (sizeThrough (turnsOf s (drop j (boxesOf f (idOf f (row .0))))) s) p → r ≡ Turns.undone (turnsOf s (drop j (boxesOf f (idOf f (row .0))))) s p) ⌝ }
+    ensures { λ r. ⌜ ((pl : Places) (f : File) → TableOf (now (table .entry)) (now (head .entry)) pl f →
+        row .0 < length (f .items) → AllFit (turnsOf s (drop j (boxesOf f (idOf f (row .0))))) s →
+        Inside (sizeThrough (turnsOf s (drop j (boxesOf f (idOf f (row .0))))) s) p →
+        r ≡ Turns.undone (turnsOf s (drop j (boxesOf f (idOf f (row .0))))) s p) ⌝ }
 {
     if declared::property_count(table, row) <= j {
         return p;
@@ -50,7 +53,9 @@ pub fn undone(head: &[u8], table: &[u32], row: ItemRow, j: usize, s: Size, p: Po
 
 // The row of an item's input with a number from 0.
 fn input_row(table: &[u32], row: ItemRow, j: usize, hope: ItemRow) -> ItemRow
-    ensures { λ r. ⌜ ((head : List ℕ) (pl : Places) (f : File) → TableOf (now (table .entry)) head pl f → row .0 < length (f .items) → j < length (targetsOf f (idOf f (row .0))) → r .0 ≡ rowOf (getD (targetsOf f (idOf f (row .0))) j 0) (f .items)) ⌝ }
+    ensures { λ r. ⌜ ((head : List ℕ) (pl : Places) (f : File) → TableOf (now (table .entry)) head pl f →
+        row .0 < length (f .items) → j < length (targetsOf f (idOf f (row .0))) →
+        r .0 ≡ rowOf (getD (targetsOf f (idOf f (row .0))) j 0) (f .items)) ⌝ }
 {
     let found = views::row_named(table, views::target_of(table, row, j), hope);
     match found {
@@ -68,7 +73,9 @@ pub enum Source {
 
 // `iden`.
 fn copied_at(table: &[u32], row: ItemRow, p: Point) -> Source
-    ensures { λ r. ⌜ ((total : ℕ) (head : List ℕ) (f : File) → Shown (now (table .entry)) head total f → row .0 < length (f .items) → itemAt f (row .0) .type ≡ iden → r ≡ toldSource (sourceOf (sceneOf total head f) (row .0) p)) ⌝ }
+    ensures { λ r. ⌜ ((total : ℕ) (head : List ℕ) (f : File) → Shown (now (table .entry)) head total f →
+        row .0 < length (f .items) → itemAt f (row .0) .type ≡ iden →
+        r ≡ toldSource (sourceOf (sceneOf total head f) (row .0) p)) ⌝ }
 {
     Source::Input {
         row: input_row(table, row, 0, row),
@@ -78,7 +85,10 @@ fn copied_at(table: &[u32], row: ItemRow, p: Point) -> Source
 
 // The tile of a grid with so many columns, row by row from top left.
 fn tiled_at(table: &[u32], row: ItemRow, columns: u32, p: Point) -> Source
-    ensures { λ r. ⌜ ((total : ℕ) (head : List ℕ) (f : File) → Shown (now (table .entry)) head total f → row .0 < length (f .items) → (g : Grid) → pictureAt (sceneOf total head f) (row .0) .recipe ≡ Tiles g → g .columns ≡ columns → Inside (pictureAt (sceneOf total head f) (row .0) .declared) p → r ≡ toldSource (sourceOf (sceneOf total head f) (row .0) p)) ⌝ }
+    ensures { λ r. ⌜ ((total : ℕ) (head : List ℕ) (f : File) → Shown (now (table .entry)) head total f →
+        row .0 < length (f .items) → (g : Grid) → pictureAt (sceneOf total head f) (row .0) .recipe ≡ Tiles g →
+        g .columns ≡ columns → Inside (pictureAt (sceneOf total head f) (row .0) .declared) p →
+        r ≡ toldSource (sourceOf (sceneOf total head f) (row .0) p)) ⌝ }
 {
     let tile = sizing::output_in(table, input_row(table, row, 0, row));
     let w = tile.wide;
@@ -106,7 +116,11 @@ pub enum Covered {
 // Where p lies on an input of size s whose offset stands at a place of the overlay's body, in numbers of so many bytes.
 fn covered_at(b: &[u8], at: usize, bytes: usize, s: Size, p: Point) -> Covered
     requires { ⌜ ((bytes ≡ 2) ⊎ (bytes ≡ 4)) × (at + 2 * bytes ≤ length (now b)) ⌝ }
-    ensures { λ r. ⌜ r ≡ toldCovered (record { right = signed bytes (beAt (now (b .entry)) at bytes); down = signed bytes (beAt (now (b .entry)) (at + bytes) bytes) }) s p ⌝ }
+    ensures { λ r. ⌜ r ≡ toldCovered (record {
+      right = signed bytes (beAt (now (b .entry)) at bytes);
+      down =
+          signed bytes (beAt (now (b .entry)) (at + bytes) bytes);
+    }) s p ⌝ }
 {
     let x = pictures::side_of(fields::be_id(b, at, bytes), bytes, p.x, s.wide);
     match x {
@@ -124,7 +138,11 @@ fn covered_at(b: &[u8], at: usize, bytes: usize, s: Size, p: Point) -> Covered
 // The topmost of the first n inputs of an overlay that covers p.
 fn topmost(table: &[u32], row: ItemRow, b: &[u8], bytes: usize, n: usize, p: Point) -> Source
     requires { ⌜ ((bytes ≡ 2) ⊎ (bytes ≡ 4)) × (n ≤ 2048) × (length (now b) ≡ 10 + 2 * bytes + 2 * bytes * n) × (bytes ≡ fieldBytes (beAt (now b) 1 1)) ⌝ }
-    ensures { λ r. ⌜ ((total : ℕ) (head : List ℕ) (f : File) → Shown (now (table .entry)) head total f → row .0 < length (f .items) → image (itemAt f (row .0) .type) ≡ true → (o : Overlay) → whole (iovl-form n) 0 (now (b .entry)) ≡ ok o → n ≡ length (targetsOf f (idOf f (row .0))) → r ≡ toldSource (layerAt (sceneOf total head f) (o .offsets) (pictureAt (sceneOf total head f) (row .0) .inputs) p blank)) ⌝ }
+    ensures { λ r. ⌜ ((total : ℕ) (head : List ℕ) (f : File) → Shown (now (table .entry)) head total f →
+        row .0 < length (f .items) → image (itemAt f (row .0) .type) ≡ true → (o : Overlay) →
+        whole (iovl-form n) 0 (now (b .entry)) ≡ ok o → n ≡ length (targetsOf f (idOf f (row .0))) →
+        r ≡ toldSource (layerAt (sceneOf total head f) (o .offsets) (pictureAt (sceneOf total head f) (row .0) .inputs)
+        p blank)) ⌝ }
 {
     if table.len() < Table::WORDS {
         return Source::Blank;
@@ -149,7 +167,9 @@ fn topmost(table: &[u32], row: ItemRow, b: &[u8], bytes: usize, n: usize, p: Poi
 
 // `iovl`.
 fn layered_at(head: &[u8], table: &[u32], row: ItemRow, p: Point) -> Source
-    ensures { λ r. ⌜ ((total : ℕ) (f : File) → Shown (now (table .entry)) (now (head .entry)) total f → row .0 < length (f .items) → itemAt f (row .0) .type ≡ iovl → r ≡ toldSource (sourceOf (sceneOf total (now (head .entry)) f) (row .0) p)) ⌝ }
+    ensures { λ r. ⌜ ((total : ℕ) (f : File) → Shown (now (table .entry)) (now (head .entry)) total f →
+        row .0 < length (f .items) → itemAt f (row .0) .type ≡ iovl →
+        r ≡ toldSource (sourceOf (sceneOf total (now (head .entry)) f) (row .0) p)) ⌝ }
 {
     let n = derived::input_count(table, row);
     if 2048 < n {
@@ -169,7 +189,10 @@ fn layered_at(head: &[u8], table: &[u32], row: ItemRow, p: Point) -> Source
 
 // `grid`.
 fn gridded_at(head: &[u8], table: &[u32], row: ItemRow, p: Point) -> Source
-    ensures { λ r. ⌜ ((total : ℕ) (f : File) → Shown (now (table .entry)) (now (head .entry)) total f → row .0 < length (f .items) → itemAt f (row .0) .type ≡ grid → Inside (pictureAt (sceneOf total (now (head .entry)) f) (row .0) .declared) p → r ≡ toldSource (sourceOf (sceneOf total (now (head .entry)) f) (row .0) p)) ⌝ }
+    ensures { λ r. ⌜ ((total : ℕ) (f : File) → Shown (now (table .entry)) (now (head .entry)) total f →
+        row .0 < length (f .items) → itemAt f (row .0) .type ≡ grid →
+        Inside (pictureAt (sceneOf total (now (head .entry)) f) (row .0) .declared) p →
+        r ≡ toldSource (sourceOf (sceneOf total (now (head .entry)) f) (row .0) p)) ⌝ }
 {
     let g = pictures::read_grid(derived::body_of(head, table, row));
     match g {
@@ -191,7 +214,10 @@ const IOVL: u32 = 0x696f766c;
 
 // What lies beneath the point p of the reconstructed picture in a row.
 pub fn source_of(head: &[u8], table: &[u32], row: ItemRow, p: Point) -> Source
-    ensures { λ r. ⌜ ((total : ℕ) (f : File) → Shown (now (table .entry)) (now (head .entry)) total f → row .0 < length (f .items) → image (itemAt f (row .0) .type) ≡ true → Inside (pictureAt (sceneOf total (now (head .entry)) f) (row .0) .declared) p → r ≡ toldSource (sourceOf (sceneOf total (now (head .entry)) f) (row .0) p)) ⌝ }
+    ensures { λ r. ⌜ ((total : ℕ) (f : File) → Shown (now (table .entry)) (now (head .entry)) total f →
+        row .0 < length (f .items) → image (itemAt f (row .0) .type) ≡ true →
+        Inside (pictureAt (sceneOf total (now (head .entry)) f) (row .0) .declared) p →
+        r ≡ toldSource (sourceOf (sceneOf total (now (head .entry)) f) (row .0) p)) ⌝ }
 {
     match views::type_of(table, row) {
         IDEN => copied_at(table, row, p),
@@ -218,7 +244,11 @@ pub enum End {
 // From the output pixel p of the picture in a row, so many pictures having been passed before it, at most d derivations down.
 pub fn trace_output(head: &[u8], table: &[u32], d: u32, passed: u32, row: ItemRow, p: Point) -> End
     requires { ⌜ passed + d ≤ 16 ⌝ }
-    ensures { λ r. ⌜ ((total : ℕ) (f : File) → Shown (now (table .entry)) (now (head .entry)) total f → row .0 < length (f .items) → image (itemAt f (row .0) .type) ≡ true → Inside (outputOf (pictureAt (sceneOf total (now (head .entry)) f) (row .0))) p → r ≡ toldEnd (traced undoTurns (sceneOf total (now (head .entry)) f) d passed (row .0) (undoTurns (pictureAt (sceneOf total (now (head .entry)) f) (row .0)) p))) ⌝ }
+    ensures { λ r. ⌜ ((total : ℕ) (f : File) → Shown (now (table .entry)) (now (head .entry)) total f →
+        row .0 < length (f .items) → image (itemAt f (row .0) .type) ≡ true →
+        Inside (outputOf (pictureAt (sceneOf total (now (head .entry)) f) (row .0))) p →
+        r ≡ toldEnd (traced undoTurns (sceneOf total (now (head .entry)) f) d passed (row .0)
+        (undoTurns (pictureAt (sceneOf total (now (head .entry)) f) (row .0)) p))) ⌝ }
 {
     let q = undone(head, table, row, 0, sizing::declared_in(table, row), p);
     trace_reconstructed(head, table, d, passed, row, q)
@@ -234,7 +264,10 @@ pub fn trace_reconstructed(
     p: Point,
 ) -> End
     requires { ⌜ passed + d ≤ 16 ⌝ }
-    ensures { λ r. ⌜ ((total : ℕ) (f : File) → Shown (now (table .entry)) (now (head .entry)) total f → row .0 < length (f .items) → image (itemAt f (row .0) .type) ≡ true → Inside (pictureAt (sceneOf total (now (head .entry)) f) (row .0) .declared) p → r ≡ toldEnd (traced undoTurns (sceneOf total (now (head .entry)) f) d passed (row .0) p)) ⌝ }
+    ensures { λ r. ⌜ ((total : ℕ) (f : File) → Shown (now (table .entry)) (now (head .entry)) total f →
+        row .0 < length (f .items) → image (itemAt f (row .0) .type) ≡ true →
+        Inside (pictureAt (sceneOf total (now (head .entry)) f) (row .0) .declared) p →
+        r ≡ toldEnd (traced undoTurns (sceneOf total (now (head .entry)) f) d passed (row .0) p)) ⌝ }
 {
     let s = source_of(head, table, row, p);
     match s {

@@ -82,7 +82,8 @@ module _ (f : File) (s : Scene) where
   to-next (suc k) q (i ∷ is) h =
       let e : q + suc k ≡ suc q + k = omega arith in
       rw e
-      (sets-from (sizeWords s (suc q + k) (getD is k noItem)) (itemWords f s q i) (recordsTo k (suc q) is) 16 (16 * k + 10) (16 * suc k + 10) (item-length f s q i) (omega arith)
+      (sets-from (sizeWords s (suc q + k) (getD is k noItem)) (itemWords f s q i) (recordsTo k (suc q) is) 16
+      (16 * k + 10) (16 * suc k + 10) (item-length f s q i) (omega arith)
       ∙ ap (λ (w : List ℕ). itemWords f s q i ++ w) (to-next k (suc q) is (le-of-suc-le-suc h)))
 
   to-rows : (k : ℕ) → Rows (recordsTo k 0 (f .items)) f
@@ -108,16 +109,19 @@ module _ (total : ℕ) (head : List ℕ) (f : File) where
   filled-none = sym (raw-table total pl f ∙ ap (λ (w : List ℕ). tableWith total pl f w (extentRow pl)) (records-joined f))
 
   -- one row more
-  pub filled-next : Bounded f → (x : List ℕ) (k : ℕ) → k < length (f .items) → sets (filledTo k ++ x) (26 + 16 * k) (sizeWords s k (itemAt f k)) ≡ filledTo (k + 1) ++ x
+  pub filled-next : Bounded f → (x : List ℕ) (k : ℕ) → k < length (f .items) →
+      sets (filledTo k ++ x) (26 + 16 * k) (sizeWords s k (itemAt f k)) ≡ filledTo (k + 1) ++ x
   unfolding filledTo
   filled-next b x k h =
       let vs = sizeWords s k (itemAt f k) in
       let n = sizes-length s k (itemAt f k) in
-      record-sets _ _ _ _ _ _ x (fill total head pl f (extentRow pl) _ x (row-four pl) b (to-rows f s k)) vs (16 * k + 10) (26 + 16 * k) (omega arith) (omega (arith, to-length f s k 0 (f .items)))
+      record-sets _ _ _ _ _ _ x (fill total head pl f (extentRow pl) _ x (row-four pl) b (to-rows f s k)) vs
+      (16 * k + 10) (26 + 16 * k) (omega arith) (omega (arith, to-length f s k 0 (f .items)))
       ∙ ap (λ (w : List ℕ). tableWith total pl f w (extentRow pl) ++ x) (rw (add-one k) (rw zero-add at (to-next f s k 0 (f .items) h)))
 
   -- the extents of a file whose items keep 13 and 14 are spelled alike
-  extents-spelled : total < 18446744073709551616 → readFile total head ≡ ok f → AllPlaced total head f → extentsBy (extentRow pl) (f .locations) ≡ extentsBy (λ l e. extentWords pl l e) (f .locations)
+  extents-spelled : total < 18446744073709551616 → readFile total head ≡ ok f → AllPlaced total head f →
+      extentsBy (extentRow pl) (f .locations) ≡ extentsBy (λ l e. extentWords pl l e) (f .locations)
   extents-spelled few e placed =
       join-same _ _ noLocation (f .locations) (λ j h. join-same _ _ noExtent (getD (f .locations) j noLocation .extents) (λ m l.
       sym (each-located total head f e
@@ -129,7 +133,9 @@ module _ (total : ℕ) (head : List ℕ) (f : File) where
   unfolding filledTo
   filled-all few e placed =
       ap (λ (w : List ℕ). tableWith total pl f w (extentRow pl)) (to-all f s 0 (f .items))
-      ∙ ap (λ (w : List ℕ). tableBy (headWords total f) (recordsFrom f s 0 (f .items)) (propertiesFrom (pl .properties) (f .properties)) (associationRows (f .associations)) (targetRows (f .derivations)) w) (extents-spelled few e placed)
+      ∙ ap (λ (w : List ℕ). tableBy (headWords total f) (recordsFrom f s 0 (f .items))
+      (propertiesFrom (pl .properties) (f .properties)) (associationRows (f .associations))
+      (targetRows (f .derivations)) w) (extents-spelled few e placed)
       ∙ sym (words-table total head f)
 
   -- the table is the file's, however far it is filled
@@ -137,17 +143,20 @@ module _ (total : ℕ) (head : List ℕ) (f : File) where
   unfolding filledTo
   filled-view e x k =
       let b = read-bounds total head f e in
-      view total head pl f (extentRow pl) _ x (row-four pl) (b .0) (to-rows f s k) (b .1) (read-makes-sure total head f e) (λ r j h l. refl) (property-parts total head f e)
+      view total head pl f (extentRow pl) _ x (row-four pl) (b .0) (to-rows f s k) (b .1)
+      (read-makes-sure total head f e) (λ r j h l. refl) (property-parts total head f e)
 
   -- and as long, with the file's targets
   pub filled-length : Bounded f → (k : ℕ) → length (filledTo k) ≡ 11280
   unfolding filledTo
   filled-length b k = table-length _ _ _ _ _ _ (fill total head pl f (extentRow pl) _ [] (row-four pl) b (to-rows f s k))
 
-  pub filled-target : Bounded f → (x : List ℕ) (k j : ℕ) → j < targetsIn (f .derivations) → getD (filledTo k ++ x) (7184 + j) 0 ≡ getD (targetRows (f .derivations)) j 0
+  pub filled-target : Bounded f → (x : List ℕ) (k j : ℕ) → j < targetsIn (f .derivations) →
+      getD (filledTo k ++ x) (7184 + j) 0 ≡ getD (targetRows (f .derivations)) j 0
   unfolding filledTo
   filled-target b x k j h =
-      target-word _ _ _ _ _ _ x (fill total head pl f (extentRow pl) _ x (row-four pl) b (to-rows f s k)) j (7184 + j) refl (omega (arith, targets-length (f .derivations)))
+      target-word _ _ _ _ _ _ x (fill total head pl f (extentRow pl) _ x (row-four pl) b (to-rows f s k)) j (7184 + j)
+      refl (omega (arith, targets-length (f .derivations)))
 
   -- sizeWords: an opaque item is a picture of no size that is drawn from nothing, so every item has its picture's
   sizes-said : (r : ℕ) → sizeWords s r (itemAt f r) ≡ sizesOf (pictureAt s r) (depth s r)

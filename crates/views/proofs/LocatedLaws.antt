@@ -43,7 +43,8 @@ unfolding iloc-form _>>=_ demand
 locations-distinct ids s ls h =
     let t = h .then .then .then .then .then .then .then .then .then in
     many-keeps (λ (l : List Location). Distinct (locatedIn l)) _
-    (λ before u l d q. subst Distinct (sym (map-append (λ (l : Location). l .id) before (l ∷ []))) (distinct-more (locatedIn before) (l .id) d (entry-new ids _ _ _ _ _ before u l q))) _ [] _ ls tt t
+    (λ before u l d q. subst Distinct (sym (map-append (λ (l : Location). l .id) before (l ∷ [])))
+    (distinct-more (locatedIn before) (l .id) d (entry-new ids _ _ _ _ _ before u l q))) _ [] _ ls tt t
 
 locations-listed : (ids s : List ℕ) (ls : List Location) → iloc-form ids .Spells s ls → All (λ (l : Location). member (l .id) ids ≡ true) ls
 unfolding iloc-form _>>=_ demand
@@ -58,15 +59,19 @@ located-same [] j d h = absurd (not-suc-le-zero h)
 located-same (l ∷ ls) zero d h = pick-yes _ _ (eq-eqb (l .id) (l .id) refl)
 located-same (l ∷ ls) (suc j) d h =
     let m = le-of-suc-le-suc h in
-    let n : l .id ≡ getD ls j noLocation .id → ⊥ = λ q. none-member (l .id) (locatedIn ls) (d .0) j (rw length-map m) (List·getD-map (λ (l : Location). l .id) ls j noLocation ∙ sym q) in
+    let n : l .id ≡ getD ls j noLocation .id → ⊥ =
+    λ q. none-member (l .id) (locatedIn ls) (d .0) j (rw length-map m)
+    (List·getD-map (λ (l : Location). l .id) ls j noLocation ∙ sym q) in
     pick-no _ _ (ne-eqb (l .id) _ n) ∙ located-same ls j (d .1) m
 
 -- readFile: what holds of every item's location holds of every entry
-pub each-located : (total : ℕ) (head : List ℕ) (f : File) → readFile total head ≡ ok f → (P : Location → Type 0) → ((r : ℕ) → r < length (f .items) → P (locationOf f (idOf f r)))
+pub each-located : (total : ℕ) (head : List ℕ) (f : File) → readFile total head ≡ ok f → (P : Location → Type 0) →
+    ((r : ℕ) → r < length (f .items) → P (locationOf f (idOf f r)))
     → (j : ℕ) → j < length (f .locations) → P (getD (f .locations) j noLocation)
 each-located total head f e P h j l =
     let s = read-sound total head f e .keeps .then .spelled .in-iloc in
     let id = getD (f .locations) j noLocation .id in
     let m = all-at (λ (l : Location). member (l .id) (idsOf (f .items)) ≡ true) noLocation (f .locations) (locations-listed _ _ _ s) j l in
     let r = member-place (idsOf (f .items)) id m in
-    subst P (ap (locatedAt (f .locations)) (sym (id-at (f .items) (r .0)) ∙ r .2) ∙ located-same (f .locations) j (locations-distinct _ _ _ s) l) (h (r .0) (rw length-map at (r .1)))
+    subst P (ap (locatedAt (f .locations)) (sym (id-at (f .items) (r .0)) ∙ r .2) ∙
+    located-same (f .locations) j (locations-distinct _ _ _ s) l) (h (r .0) (rw length-map at (r .1)))

@@ -48,7 +48,8 @@ unfolding rowOf
 row-listed [] id e = untrue e
 row-listed (i ∷ is) id e =
     both (λ (r : ℕ). r < suc (length is)) (eqb (i .id) id) _ _ (λ q. omega arith)
-    (λ q. ⊎-elim (λ z. untrue (sym q ∙ eq-eqb (i .id) id (sym (eqb-true id (i .id) z)))) (λ z. omega (arith, row-listed is id z)) (or-either (eqb id (i .id)) (member id (idsOf is)) e))
+    (λ q. ⊎-elim (λ z. untrue (sym q ∙ eq-eqb (i .id) id (sym (eqb-true id (i .id) z))))
+    (λ z. omega (arith, row-listed is id z)) (or-either (eqb id (i .id)) (member id (idsOf is)) e))
 
 -- toldRow: what a lookup found
 abbrev pub Found : ℕ → List Item → FoundRow → Type 0

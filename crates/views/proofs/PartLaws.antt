@@ -93,7 +93,9 @@ file-sited total head f e =
       lies =
           lies-in (lies-in (meta-lies total head m (i .place) (i .first)) (lies-body m (meta-header total head m (i .place) (i .first))))
           (lies-after (k .fields) (flat (c .boxes)) (bodyOf m) 4 (ap (λ (s : List ℕ). k .fields ++ s) (c .joined) ∙ k .joined) n);
-      places = ap placesBy found ∙ ap (λ (s : List ℕ). placesAt (i .place + headOf m + 4) (cut s .boxes)) content ∙ ap (λ (s : Cut). placesAt (i .place + headOf m + 4) (s .boxes)) (cut-only _ _ _ (full-cut (k .boxes) (c .boxes) (c .all) (c .joined)));
+      places = ap placesBy found ∙ ap (λ (s : List ℕ). placesAt (i .place + headOf m + 4) (cut s .boxes)) content ∙
+          ap (λ (s : Cut). placesAt (i .place + headOf m + 4) (s .boxes))
+          (cut-only _ _ _ (full-cut (k .boxes) (c .boxes) (c .all) (c .joined)));
     }
 
 -- Shows: the properties lie behind the header of the `ipco`, with which the content of an `iprp` begins

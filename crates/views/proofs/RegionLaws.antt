@@ -1,5 +1,6 @@
 -- The six regions of a table, and what is read from each. Assumes nothing.
---   h    the first words;   r    the records;   p    the properties;   a    the associations;   t    the targets;   e    the extents;   x    the caller's words past the table
+-- h    the first words;   r    the records;   p    the properties;   a    the associations;   t    the targets;   e
+-- the extents;   x    the caller's words past the table
 use Prim.Native.Nat.{ℕ, _+_, _<_, _≤_}
 use native.Mathlib.Omega.{arith}
 use mathlib.Core.Path.{_≡_, refl, ap, _∙_}
@@ -39,17 +40,20 @@ module _ (h r p a t e x : List ℕ) (l : Fill h r p a t e) where
   unfolding tableBy
   regions = simp append-assoc
 
-  from-records : (i k : ℕ) → k ≡ 16 + i → getD whole k 0 ≡ getD (region 4096 r ++ (region 1024 p ++ (region 2048 a ++ (region 2048 t ++ (region 2048 e ++ x))))) i 0
+  from-records : (i k : ℕ) → k ≡ 16 + i → getD whole k 0 ≡ getD
+      (region 4096 r ++ (region 1024 p ++ (region 2048 a ++ (region 2048 t ++ (region 2048 e ++ x))))) i 0
   from-records i k q = ap (λ (s : List ℕ). getD s k 0) regions ∙ getD-from (region 16 h) _ 16 i k (region-length 16 h (l .in-head)) q
 
   from-properties : (i k : ℕ) → k ≡ 4112 + i → getD whole k 0 ≡ getD (region 1024 p ++ (region 2048 a ++ (region 2048 t ++ (region 2048 e ++ x)))) i 0
   from-properties i k q = from-records (4096 + i) k (omega arith) ∙ getD-from (region 4096 r) _ 4096 i (4096 + i) (region-length 4096 r (l .in-records)) refl
 
   from-associations : (i k : ℕ) → k ≡ 5136 + i → getD whole k 0 ≡ getD (region 2048 a ++ (region 2048 t ++ (region 2048 e ++ x))) i 0
-  from-associations i k q = from-properties (1024 + i) k (omega arith) ∙ getD-from (region 1024 p) _ 1024 i (1024 + i) (region-length 1024 p (l .in-properties)) refl
+  from-associations i k q = from-properties (1024 + i) k (omega arith) ∙
+      getD-from (region 1024 p) _ 1024 i (1024 + i) (region-length 1024 p (l .in-properties)) refl
 
   from-targets : (i k : ℕ) → k ≡ 7184 + i → getD whole k 0 ≡ getD (region 2048 t ++ (region 2048 e ++ x)) i 0
-  from-targets i k q = from-associations (2048 + i) k (omega arith) ∙ getD-from (region 2048 a) _ 2048 i (2048 + i) (region-length 2048 a (l .in-associations)) refl
+  from-targets i k q = from-associations (2048 + i) k (omega arith) ∙
+      getD-from (region 2048 a) _ 2048 i (2048 + i) (region-length 2048 a (l .in-associations)) refl
 
   from-extents : (i k : ℕ) → k ≡ 9232 + i → getD whole k 0 ≡ getD (region 2048 e ++ x) i 0
   from-extents i k q = from-targets (2048 + i) k (omega arith) ∙ getD-from (region 2048 t) _ 2048 i (2048 + i) (region-length 2048 t (l .in-targets)) refl

@@ -19,9 +19,8 @@ use Rattle.contents.specs.Ipma.{Association, Named, association-form, named-for
 use Rattle.contents.specs.Iref.{Derivation}
 use Rattle.contents.specs.File.{File, readFile}
 use Rattle.contents.proofs.ReadLaws.{read-sound}
-use Rattle.rules.specs.Joined.{namedFor, derivedFrom}
+use Rattle.rules.specs.Joined.{namedFor, derivedFrom, noAssociation}
 use Rattle.rules.specs.Places.{placesIn}
-use Rattle.rules.specs.Questions.{noAssociation}
 use Rattle.rules.proofs.ListedLaws.{read-listed}
 use Rattle.views.specs.View.{Sound}
 use Rattle.views.proofs.PartLaws.{idat-part}
@@ -43,7 +42,8 @@ association-names bytes most before u a s = subst (Names most) (sym (s .then .th
 abbrev NamesAll : ℕ → Named → Type 0
 NamesAll most n = All (Names most) (n .list)
 
-named-names : (ids : List ℕ) (most v bytes : ℕ) (before : List Named) (u : List ℕ) (n : Named) → named-form ids most v bytes before .Spells u n → NamesAll most n
+named-names : (ids : List ℕ) (most v bytes : ℕ) (before : List Named) (u : List ℕ) (n : Named) →
+    named-form ids most v bytes before .Spells u n → NamesAll most n
 unfolding named-form _>>=_ give
 named-names ids most v bytes before u n s =
     let w = s .then .then .then .then .then in
@@ -69,9 +69,11 @@ pub read-makes-sure : (total : ℕ) (head : List ℕ) (f : File) → readFile to
 read-makes-sure total head f e =
     let s = read-sound total head f e .keeps .then .spelled in
     record {
-      indexed = λ id j h. all-at (Names (length (f .properties))) noAssociation (namedFor (f .associations) id) (named-all _ (f .associations) id (ipma-names _ _ _ _ (s .in-iprp .associations))) j h;
+      indexed = λ id j h. all-at (Names (length (f .properties))) noAssociation (namedFor (f .associations) id)
+          (named-all _ (f .associations) id (ipma-names _ _ _ _ (s .in-iprp .associations))) j h;
       held = λ k h. all-at (λ (b : List ℕ). Held (kindOf b) (bodyOf b)) [] (f .properties) (s .in-iprp .properties .good) k h;
-      listed = λ id j h. all-at (λ (t : ℕ). member t (idsOf (f .items)) ≡ true) 0 (derivedFrom (f .derivations) id) (derived-all _ (f .derivations) id (read-listed total head f e)) j h;
+      listed = λ id j h. all-at (λ (t : ℕ). member t (idsOf (f .items)) ≡ true) 0 (derivedFrom (f .derivations) id)
+          (derived-all _ (f .derivations) id (read-listed total head f e)) j h;
       idat-room = idat-part total head f e .room;
       idat-part = idat-part total head f e .part;
     }

@@ -1,4 +1,5 @@
--- Spans: lists in file order, each entry with an ID and so many records of w words, are joined; the records of an ID stand from its first index on. Assumes nothing.
+-- Spans: lists in file order, each entry with an ID and so many records of w words, are joined; the records of an ID
+-- stand from its first index on. Assumes nothing.
 --   key, of      an entry's ID, and what is said of it;   at    what is said of an ID: that of the first entry that has it
 --   N            how many records that is;   W    their words
 use Prim.Native.Nat.{ℕ, _+_, _*_, _<_, _≤_}
@@ -15,8 +16,7 @@ use Rattle.fields.proofs.FieldLaws.{pick-yes, pick-no, both}
 use Rattle.contents.specs.Iloc.{Extent, Location, extentsIn}
 use Rattle.contents.specs.Ipma.{Association, Named, associationsIn}
 use Rattle.contents.specs.Iref.{Derivation, targetsIn}
-use Rattle.rules.specs.Joined.{locatedAt, namedFor, derivedFrom}
-use Rattle.rules.specs.Questions.{noAssociation}
+use Rattle.rules.specs.Joined.{locatedAt, namedFor, derivedFrom, noAssociation}
 use Rattle.rules.specs.Words.{Group, joinAll, firstIn, totalOf, namedGroups, derivedGroups, locatedGroups, associationWord}
 use Rattle.records.specs.Raw.{associationRows, targetRows}
 use Rattle.records.proofs.JoinLaws.{join-length, join-getD}
@@ -89,7 +89,8 @@ module _ {A B : Type 0} (key : A → ℕ) (of : A → B) (at : List A → ℕ �
               let m : i < length (W (at es x)) = subst (λ (b : B). i < length (W b)) (at-no a es x e) h in
               rw (first-no a es x n e, at-no a es x e, ← append-assoc) (k m)
 
-      span-word : (es : List A) (x i k : ℕ) → i < length (W (at es x)) → k ≡ w * firstOf x (groups es) (N (at es x)) + i → getD (joined es) k 0 ≡ getD (W (at es x)) i 0
+      span-word : (es : List A) (x i k : ℕ) → i < length (W (at es x)) →
+          k ≡ w * firstOf x (groups es) (N (at es x)) + i → getD (joined es) k 0 ≡ getD (W (at es x)) i 0
       span-word es x i k h e =
           let some : eqb (N (at es x)) 0 ≡ false = ne-eqb (N (at es x)) 0 (λ q. omega (arith, sized (at es x), ap (λ (j : ℕ). w * j) q, mul-zero w)) in
           ap (λ (j : ℕ). getD (joined es) j 0) (e ∙ ap (λ (j : ℕ). w * j + i) (pick-no 0 (firstIn x 0 (groups es)) some))
@@ -111,7 +112,8 @@ named-span ns x j h =
 -- derivedFrom
 pub target-room : (ds : List Derivation) (x : ℕ) → firstOf x (derivedGroups ds) (length (derivedFrom ds x)) + length (derivedFrom ds x) ≤ targetsIn ds
 unfolding derivedFrom
-target-room ds x = rw (derived-total ds) at (span-room (λ (d : Derivation). d .id) (λ (d : Derivation). d .targets) derivedFrom (λ a es y. refl) (λ l. length l) (λ y. refl) ds x)
+target-room ds x = rw (derived-total ds) at (span-room (λ (d : Derivation). d .id) (λ (d : Derivation). d .targets)
+    derivedFrom (λ a es y. refl) (λ l. length l) (λ y. refl) ds x)
 
 pub target-span : (ds : List Derivation) (x j : ℕ) → j < length (derivedFrom ds x)
     → getD (targetRows ds) (firstOf x (derivedGroups ds) (length (derivedFrom ds x)) + j) 0 ≡ getD (derivedFrom ds x) j 0
@@ -121,10 +123,12 @@ target-span ds x j h =
     (λ l. l) 1 (λ l. omega arith) ds x j _ h (omega arith)
 
 -- locatedAt
-pub extent-room : (ls : List Location) (x : ℕ) → firstOf x (locatedGroups ls) (length (locatedAt ls x .extents)) + length (locatedAt ls x .extents) ≤ extentsIn ls
+pub extent-room : (ls : List Location) (x : ℕ) →
+    firstOf x (locatedGroups ls) (length (locatedAt ls x .extents)) + length (locatedAt ls x .extents) ≤ extentsIn ls
 unfolding locatedAt
 extent-room ls x =
-    rw (located-total ls) at (span-room (λ (l : Location). l .id) (λ (l : Location). l) locatedAt (λ a es y. refl) (λ (l : Location). length (l .extents)) (λ y. refl) ls x)
+    rw (located-total ls) at (span-room (λ (l : Location). l .id) (λ (l : Location). l) locatedAt (λ a es y. refl)
+    (λ (l : Location). length (l .extents)) (λ y. refl) ls x)
 
 -- extents of four words each, as g spells them
 abbrev pub extentsBy : (Location → Extent → List ℕ) → List Location → List ℕ
@@ -145,5 +149,6 @@ module _ (g : Location → Extent → List ℕ) (four : (l : Location) (e : Exte
   unfolding locatedAt
   extent-span ls x j k h m =
       span-word (λ (l : Location). l .id) (λ (l : Location). l) locatedAt (λ a es y. refl) (λ (l : Location). length (l .extents)) (λ y. refl)
-      (λ (l : Location). joinAll (λ (e : Extent). g l e) (l .extents)) 4 extents-of ls x (4 * j + k) _ (rw (extents-of (locatedAt ls x)) (omega arith)) (omega arith)
+      (λ (l : Location). joinAll (λ (e : Extent). g l e) (l .extents)) 4 extents-of ls x (4 * j + k) _
+      (rw (extents-of (locatedAt ls x)) (omega arith)) (omega arith)
       ∙ join-getD (λ (e : Extent). g (locatedAt ls x) e) 4 (four (locatedAt ls x)) noExtent (locatedAt ls x .extents) j k h m

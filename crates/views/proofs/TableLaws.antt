@@ -12,9 +12,8 @@ use Rattle.fields.proofs.FieldLaws.{pick-yes, pick-no}
 use Rattle.boxes.specs.Box.{headOf, kindOf, bodyOf}
 use Rattle.boxes.proofs.BoxLaws.{head-least, short-head, long-head}
 use Rattle.contents.specs.File.{File}
-use Rattle.rules.specs.Joined.{associationsOf, targetsOf, locationOf, propertyAt, itemAt}
+use Rattle.rules.specs.Joined.{associationsOf, targetsOf, locationOf, propertyAt, itemAt, noAssociation}
 use Rattle.rules.specs.Places.{Places, fileOffset}
-use Rattle.rules.specs.Questions.{noAssociation}
 use Rattle.rules.specs.Words.{associationWord}
 use Rattle.records.specs.Raw.{capped}
 use Rattle.views.specs.View.{TableOf, recordWord, wide, idOf, noExtent}

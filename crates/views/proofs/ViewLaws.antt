@@ -14,7 +14,7 @@ use Rattle.fields.proofs.FieldLaws.{pick-yes, both}
 use Rattle.fields.proofs.TestLaws.{and-both}
 use Rattle.boxes.specs.Answer.{ok}
 use Rattle.boxes.specs.Types.{image}
-use Rattle.boxes.proofs.AnswerLaws.{bind-ok, then-ok, check-ok, ok-inj}
+use Rattle.boxes.proofs.AnswerLaws.{then-ok, check-ok}
 use Rattle.contents.specs.Iinf.{Item, idsOf}
 use Rattle.contents.specs.Iloc.{Extent, Location}
 use Rattle.contents.specs.File.{File, readFile}
@@ -24,10 +24,10 @@ use Rattle.rules.specs.Bytes.{Store, storeOf, allExtents, within}
 use Rattle.rules.specs.Derivations.{sceneOf}
 use Rattle.rules.specs.Joined.{locationOf, noItem, itemAt}
 use Rattle.rules.specs.Places.{Places, placesIn, propertyOffset, fileOffset}
-use Rattle.rules.specs.Questions.{accepted}
-use Rattle.rules.specs.Rules.{rule13-14, judged}
+use Rattle.rules.specs.Opening.{accepted}
+use Rattle.rules.specs.Rules.{rule13-14}
 use Rattle.rules.specs.Words.{headWords, extentWords, sizeWords, itemWords, recordsFrom, wordsOf}
-use Rattle.rules.proofs.RuleLaws.{judged-each}
+use Rattle.rules.proofs.RuleLaws.{judged-each, accepted-both}
 use Rattle.records.specs.Raw.{Bounded, namedWords, derivedWords, placeWords, recordOf, capped, extentRow, extentRows, associationRows, targetRows, rawOf}
 use Rattle.records.specs.Rows.{Distinct}
 use Rattle.records.proofs.JoinLaws.{join-getD}
@@ -50,7 +50,8 @@ raw-rows : (f : File) → Rows (recordsIn f) f
 raw-rows f =
     record {
       long = records-length f;
-      word = λ r k h l. ap (λ (w : List ℕ). getD w (16 * r + k) 0) (records-joined f) ∙ join-getD (rowWords f) 16 (row-length f) noItem (f .items) r k h (omega arith);
+      word = λ r k h l. ap (λ (w : List ℕ). getD w (16 * r + k) 0) (records-joined f) ∙
+          join-getD (rowWords f) 16 (row-length f) noItem (f .items) r k h (omega arith);
     }
 
 pub row-four : (pl : Places) (l : Location) (e : Extent) → length (extentRow pl l e) ≡ 4
@@ -63,7 +64,8 @@ pub raw-view : (total : ℕ) (head : List ℕ) (f : File) (x : List ℕ) → rea
 raw-view total head f x e b d =
     let pl = placesIn total head in
     subst (λ (w : List ℕ). TableOf (w ++ x) head pl f) (sym (raw-table total pl f))
-    (view total head pl f (extentRow pl) (recordsIn f) x (row-four pl) b (raw-rows f) d (read-makes-sure total head f e) (λ r j h l. refl) (property-parts total head f e))
+    (view total head pl f (extentRow pl) (recordsIn f) x (row-four pl) b (raw-rows f) d (read-makes-sure total head f e)
+    (λ r j h l. refl) (property-parts total head f e))
 
 -- the same of any file that is read: it keeps the limits
 pub read-view : (total : ℕ) (head : List ℕ) (f : File) (x : List ℕ) → readFile total head ≡ ok f
@@ -95,7 +97,8 @@ module _ (f : File) (s : Scene) where
   item-sizes : (r : ℕ) (i : Item) (k : ℕ) → k < 5 → getD (itemWords f s r i) (10 + k) 0 ≡ getD (sizeWords s r i) k 0
   unfolding itemWords
   item-sizes r i k h =
-      getD-from (take 10 (itemWords f s r i)) (sizeWords s r i ++ (0 ∷ [])) 10 k (10 + k) refl refl ∙ List·getD-append (sizeWords s r i) (0 ∷ []) 0 k (rw (sizes-length s r i) h)
+      getD-from (take 10 (itemWords f s r i)) (sizeWords s r i ++ (0 ∷ [])) 10 k (10 + k) refl refl ∙
+      List·getD-append (sizeWords s r i) (0 ∷ []) 0 k (rw (sizes-length s r i) h)
 
   -- recordsFrom
   from-length : (q : ℕ) (is : List Item) → length (recordsFrom f s q is) ≡ 16 * length is
@@ -103,7 +106,8 @@ module _ (f : File) (s : Scene) where
   from-length q [] = refl
   from-length q (i ∷ is) = rw (length-append, item-length q i, from-length (suc q) is) (omega arith)
 
-  from-word : (q : ℕ) (is : List Item) (r k : ℕ) → r < length is → k < 16 → getD (recordsFrom f s q is) (16 * r + k) 0 ≡ getD (itemWords f s (q + r) (getD is r noItem)) k 0
+  from-word : (q : ℕ) (is : List Item) (r k : ℕ) → r < length is → k < 16 →
+      getD (recordsFrom f s q is) (16 * r + k) 0 ≡ getD (itemWords f s (q + r) (getD is r noItem)) k 0
   unfolding recordsFrom
   from-word q [] r k h l = absurd (not-suc-le-zero h)
   from-word q (i ∷ is) zero k h l =
@@ -124,17 +128,10 @@ module _ (f : File) (s : Scene) where
 
 -- wordsOf
 pub words-table : (total : ℕ) (head : List ℕ) (f : File)
-    → wordsOf total head f ≡ tableWith total (placesIn total head) f (recordsFrom f (sceneOf total head f) 0 (f .items)) (λ l e. extentWords (placesIn total head) l e)
+    → wordsOf total head f ≡ tableWith total (placesIn total head) f (recordsFrom f (sceneOf total head f) 0 (f .items))
+    (λ l e. extentWords (placesIn total head) l e)
 unfolding wordsOf tableBy associationRows targetRows
 words-table total head f = refl
-
--- accepted
-pub accepted-both : (total : ℕ) (head : List ℕ) (f : File) → accepted total head ≡ ok f → (readFile total head ≡ ok f) × (judged total head f ≡ ok tt)
-unfolding accepted
-accepted-both total head f e =
-    let x = bind-ok _ _ f e in
-    let y = then-ok _ _ f (x .2) in
-    subst (λ (g : File). (readFile total head ≡ ok g) × (judged total head g ≡ ok tt)) (ok-inj _ f (y .2)) (x .1, y .1)
 
 -- allExtents
 pub extents-each : (t : Extent → Bool) (d : Extent) (es : List Extent) → allExtents t es ≡ true → (j : ℕ) → j < length es → t (getD es j d) ≡ true
@@ -149,30 +146,38 @@ module _ (total : ℕ) (head : List ℕ) (f : File) (pl : Places) (small : lengt
   unfolding fileOffset pick
   offset-within l e h = by (eqb (l .method) 1) h
     where
-      by : (t : Bool) → l .base + e .offset + e .size ≤ pick {A = Store} t (record { size = length (f .idat); known = f .idat }) (record { size = total; known = head }) .size
+      by : (t : Bool) → l .base + e .offset + e .size ≤ pick {A = Store} t
+          (record { size = length (f .idat); known = f .idat }) (record { size = total; known = head }) .size
           → pick t (pl .idat) 0 + (l .base + e .offset) + e .size ≤ total
       by true h = omega (arith, part .room)
       by false h = omega arith
 
 -- AllPlaced: every extent of an item lies in the file
-pub extent-within : (total : ℕ) (head : List ℕ) (f : File) → readFile total head ≡ ok f → AllPlaced total head f → (r j : ℕ) → r < length (f .items) → j < length (locationOf f (idOf f r) .extents)
-    → fileOffset (placesIn total head) (locationOf f (idOf f r)) (getD (locationOf f (idOf f r) .extents) j noExtent) + getD (locationOf f (idOf f r) .extents) j noExtent .size ≤ total
+pub extent-within : (total : ℕ) (head : List ℕ) (f : File) → readFile total head ≡ ok f → AllPlaced total head f →
+    (r j : ℕ) → r < length (f .items) → j < length (locationOf f (idOf f r) .extents)
+    → fileOffset (placesIn total head) (locationOf f (idOf f r)) (getD (locationOf f (idOf f r) .extents) j noExtent) +
+    getD (locationOf f (idOf f r) .extents) j noExtent .size ≤ total
 unfolding rule13-14
 extent-within total head f e placed r j h l =
     let x = then-ok _ _ tt (placed r h) in
     let w = and-both (within (storeOf total head f (locationOf f (idOf f r) .method)) (locationOf f (idOf f r))) _ (check-ok 14 _ _ tt (x .2)) .0 in
     let t = extents-each _ noExtent (locationOf f (idOf f r) .extents) w j l in
-    offset-within total head f (placesIn total head) (read-sound total head f e .within) (idat-part total head f e) (locationOf f (idOf f r)) (getD (locationOf f (idOf f r) .extents) j noExtent) (leb-true _ _ t)
+    offset-within total head f (placesIn total head) (read-sound total head f e .within) (idat-part total head f e)
+    (locationOf f (idOf f r)) (getD (locationOf f (idOf f r) .extents) j noExtent) (leb-true _ _ t)
 
 -- capped
 pub capped-same : (x : ℕ) → x < 18446744073709551616 → capped x ≡ x
 capped-same x h = pick-yes x 18446744073709551615 (le-leb x 18446744073709551615 (omega arith))
 
 -- a file whose items keep 13 and 14
-pub words-spelled : (total : ℕ) (head : List ℕ) (f : File) → total < 18446744073709551616 → readFile total head ≡ ok f → AllPlaced total head f → Spells (λ l e. extentWords (placesIn total head) l e) (placesIn total head) f
+pub words-spelled : (total : ℕ) (head : List ℕ) (f : File) → total < 18446744073709551616 →
+    readFile total head ≡ ok f → AllPlaced total head f →
+    Spells (λ l e. extentWords (placesIn total head) l e) (placesIn total head) f
 unfolding extentRow
 words-spelled total head f few e placed r j h l =
-    rw (capped-same (fileOffset (placesIn total head) (locationOf f (idOf f r)) (getD (locationOf f (idOf f r) .extents) j noExtent)) (omega (arith, extent-within total head f e placed r j h l)))
+    rw (capped-same (fileOffset (placesIn total head) (locationOf f (idOf f r))
+    (getD (locationOf f (idOf f r) .extents) j noExtent)) (omega
+    (arith, extent-within total head f e placed r j h l)))
 
 pub placed-view : (total : ℕ) (head : List ℕ) (f : File) (x : List ℕ) → total < 18446744073709551616 → readFile total head ≡ ok f → AllPlaced total head f
     → TableOf (wordsOf total head f ++ x) head (placesIn total head) f
@@ -180,7 +185,9 @@ placed-view total head f x few e placed =
     let pl = placesIn total head in
     let b = read-bounds total head f e in
     subst (λ (w : List ℕ). TableOf (w ++ x) head pl f) (sym (words-table total head f))
-    (view total head pl f (λ l e. extentWords pl l e) _ x (λ l e. refl) (b .0) (from-rows f (sceneOf total head f)) (b .1) (read-makes-sure total head f e) (words-spelled total head f few e placed) (property-parts total head f e))
+    (view total head pl f (λ l e. extentWords pl l e) _ x (λ l e. refl) (b .0) (from-rows f (sceneOf total head f))
+    (b .1) (read-makes-sure total head f e) (words-spelled total head f few e placed)
+    (property-parts total head f e))
 
 pub words-view : (total : ℕ) (head : List ℕ) (f : File) (x : List ℕ) → total < 18446744073709551616 → accepted total head ≡ ok f
     → TableOf (wordsOf total head f ++ x) head (placesIn total head) f
@@ -196,7 +203,8 @@ words-sizes total head f x b r k h l =
     let pl = placesIn total head in
     let rows = from-rows f s in
     ap (λ (w : List ℕ). recordWord (w ++ x) r (10 + k)) (words-table total head f)
-    ∙ record-word _ _ _ _ _ _ x (fill total head pl f (λ l e. extentWords pl l e) _ x (λ l e. refl) b rows) (16 * r + (10 + k)) (16 + 16 * r + (10 + k)) (omega arith) (omega (arith, rows .long))
+    ∙ record-word _ _ _ _ _ _ x (fill total head pl f (λ l e. extentWords pl l e) _ x (λ l e. refl) b rows)
+    (16 * r + (10 + k)) (16 + 16 * r + (10 + k)) (omega arith) (omega (arith, rows .long))
     ∙ from-word f s 0 (f .items) r (10 + k) h (omega arith)
     ∙ item-sizes f s (0 + r) (itemAt f r) k l
     ∙ ap (λ (q : ℕ). getD (sizeWords s q (itemAt f r)) k 0) (zero-add r)

@@ -9,9 +9,8 @@ use Rattle.boxes.specs.Box.{kindOf, flat}
 use Rattle.contents.specs.Iinf.{idsOf}
 use Rattle.contents.specs.Iloc.{Extent, Location}
 use Rattle.contents.specs.File.{File}
-use Rattle.rules.specs.Joined.{locationOf, associationsOf, targetsOf, itemAt}
+use Rattle.rules.specs.Joined.{locationOf, associationsOf, targetsOf, itemAt, noAssociation}
 use Rattle.rules.specs.Places.{Places, fileOffset}
-use Rattle.rules.specs.Questions.{noAssociation}
 use Rattle.rules.specs.Words.{headWords, propertiesFrom, associationWord, namedGroups, derivedGroups, locatedGroups}
 use Rattle.records.specs.Raw.{Bounded, namedWords, derivedWords, placeWords, recordOf, capped, extentRow, associationRows, targetRows}
 use Rattle.records.specs.Rows.{Distinct}
@@ -56,19 +55,23 @@ pub record Rows (rs : List ℕ) (f : File) : Type 0 where
 abbrev pub Spells : (Location → Extent → List ℕ) → Places → File → Type 0
 Spells g pl f =
     (r j : ℕ) → r < length (f .items) → j < length (locationOf f (idOf f r) .extents)
-    → g (locationOf f (idOf f r)) (getD (locationOf f (idOf f r) .extents) j noExtent) ≡ extentRow pl (locationOf f (idOf f r)) (getD (locationOf f (idOf f r) .extents) j noExtent)
+    → g (locationOf f (idOf f r)) (getD (locationOf f (idOf f r) .extents) j noExtent) ≡ extentRow pl
+    (locationOf f (idOf f r)) (getD (locationOf f (idOf f r) .extents) j noExtent)
 
 -- the table with the records rs and the extents as g spells them
 abbrev pub tableWith : ℕ → Places → File → List ℕ → (Location → Extent → List ℕ) → List ℕ
 tableWith total pl f rs g =
-    tableBy (headWords total f) rs (propertiesFrom (pl .properties) (f .properties)) (associationRows (f .associations)) (targetRows (f .derivations)) (extentsBy g (f .locations))
+    tableBy (headWords total f) rs (propertiesFrom (pl .properties) (f .properties)) (associationRows (f .associations))
+    (targetRows (f .derivations)) (extentsBy g (f .locations))
 
-module _ (total : ℕ) (head : List ℕ) (pl : Places) (f : File) (g : Location → Extent → List ℕ) (rs x : List ℕ) (four : (l : Location) (e : Extent) → length (g l e) ≡ 4)
+module _ (total : ℕ) (head : List ℕ) (pl : Places) (f : File) (g : Location → Extent → List ℕ) (rs x : List ℕ)
+    (four : (l : Location) (e : Extent) → length (g l e) ≡ 4)
     (b : Bounded f) (rows : Rows rs f) where
   abbrev t : List ℕ
   t = tableWith total pl f rs g ++ x
 
-  pub fill : Fill (headWords total f) rs (propertiesFrom (pl .properties) (f .properties)) (associationRows (f .associations)) (targetRows (f .derivations)) (extentsBy g (f .locations))
+  pub fill : Fill (headWords total f) rs (propertiesFrom (pl .properties) (f .properties))
+      (associationRows (f .associations)) (targetRows (f .derivations)) (extentsBy g (f .locations))
   fill =
       record {
         in-head = omega arith;
@@ -111,7 +114,8 @@ module _ (total : ℕ) (head : List ℕ) (pl : Places) (f : File) (g : Location 
   unfolding recordOf namedWords derivedWords
   target-many r h = row-word r 6 h (omega arith)
 
-  extent-first : (r : ℕ) → r < length (f .items) → recordWord t r 7 ≡ firstOf (idOf f r) (locatedGroups (f .locations)) (length (locationOf f (idOf f r) .extents))
+  extent-first : (r : ℕ) → r < length (f .items) →
+      recordWord t r 7 ≡ firstOf (idOf f r) (locatedGroups (f .locations)) (length (locationOf f (idOf f r) .extents))
   unfolding recordOf namedWords derivedWords placeWords
   extent-first r h = row-word r 7 h (omega arith)
 
@@ -132,7 +136,8 @@ module _ (total : ℕ) (head : List ℕ) (pl : Places) (f : File) (g : Location 
       (omega (arith, associations-length (f .associations), named-room (f .associations) (idOf f r)))
       ∙ named-span (f .associations) (idOf f r) j l
 
-  target-at : (r j : ℕ) → r < length (f .items) → j < length (targetsOf f (idOf f r)) → getD t (7184 + (recordWord t r 5 + j)) 0 ≡ getD (targetsOf f (idOf f r)) j 0
+  target-at : (r j : ℕ) → r < length (f .items) → j < length (targetsOf f (idOf f r)) →
+      getD t (7184 + (recordWord t r 5 + j)) 0 ≡ getD (targetsOf f (idOf f r)) j 0
   target-at r j h l =
       let i = firstOf (idOf f r) (derivedGroups (f .derivations)) (length (targetsOf f (idOf f r))) + j in
       target-word _ _ _ _ _ _ x fill i (7184 + (recordWord t r 5 + j)) (omega (arith, target-first r h))

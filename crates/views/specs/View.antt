@@ -20,10 +20,9 @@ use Rattle.contents.specs.Iref.{targetsIn}
 use Rattle.contents.specs.File.{File}
 use Rattle.pictures.specs.Scene.{Picture, Scene, pictureAt, outputOf}
 use Rattle.pictures.specs.Depth.{depth}
-use Rattle.rules.specs.Joined.{itemAt, locationOf, associationsOf, targetsOf}
+use Rattle.rules.specs.Joined.{itemAt, locationOf, associationsOf, targetsOf, noAssociation}
 use Rattle.rules.specs.Places.{Places, fileOffset}
 use Rattle.rules.specs.Words.{associationWord}
-use Rattle.rules.specs.Questions.{noAssociation}
 use Rattle.rules.specs.Rules.{rule13-14, rule17}
 use Rattle.records.specs.Raw.{Bounded, capped}
 use Rattle.records.specs.Rows.{Distinct}
@@ -63,18 +62,24 @@ pub record TableOf (t head : List ℕ) (pl : Places) (f : File) : Type 0 where
   pub hidden : (r : ℕ) → r < length (f .items) → recordWord t r 2 ≡ itemAt f r .hidden
   pub named-room : (r : ℕ) → r < length (f .items) → recordWord t r 3 + length (associationsOf f (idOf f r)) ≤ 2048
   pub named-count : (r : ℕ) → r < length (f .items) → recordWord t r 4 ≡ length (associationsOf f (idOf f r))
-  pub named : (r j : ℕ) → r < length (f .items) → j < length (associationsOf f (idOf f r)) → getD t (5136 + (recordWord t r 3 + j)) 0 ≡ associationWord (getD (associationsOf f (idOf f r)) j noAssociation)
+  pub named : (r j : ℕ) → r < length (f .items) → j < length (associationsOf f (idOf f r)) →
+      getD t (5136 + (recordWord t r 3 + j)) 0 ≡ associationWord (getD (associationsOf f (idOf f r)) j noAssociation)
   pub target-room : (r : ℕ) → r < length (f .items) → recordWord t r 5 + length (targetsOf f (idOf f r)) ≤ targetsIn (f .derivations)
   pub target-count : (r : ℕ) → r < length (f .items) → recordWord t r 6 ≡ length (targetsOf f (idOf f r))
-  pub target : (r j : ℕ) → r < length (f .items) → j < length (targetsOf f (idOf f r)) → getD t (7184 + (recordWord t r 5 + j)) 0 ≡ getD (targetsOf f (idOf f r)) j 0
+  pub target : (r j : ℕ) → r < length (f .items) → j < length (targetsOf f (idOf f r)) →
+      getD t (7184 + (recordWord t r 5 + j)) 0 ≡ getD (targetsOf f (idOf f r)) j 0
   pub extent-room : (r : ℕ) → r < length (f .items) → recordWord t r 7 + length (locationOf f (idOf f r) .extents) ≤ 512
   pub extent-count : (r : ℕ) → r < length (f .items) → recordWord t r 8 ≡ length (locationOf f (idOf f r) .extents)
-  pub extent-size : (r j : ℕ) → r < length (f .items) → j < length (locationOf f (idOf f r) .extents) → wide t (9232 + 4 * (recordWord t r 7 + j) + 2) ≡ getD (locationOf f (idOf f r) .extents) j noExtent .size
-  pub extent-offset : (r j : ℕ) → r < length (f .items) → j < length (locationOf f (idOf f r) .extents) → wide t (9232 + 4 * (recordWord t r 7 + j)) ≡ capped (fileOffset pl (locationOf f (idOf f r)) (getD (locationOf f (idOf f r) .extents) j noExtent))
+  pub extent-size : (r j : ℕ) → r < length (f .items) → j < length (locationOf f (idOf f r) .extents) →
+      wide t (9232 + 4 * (recordWord t r 7 + j) + 2) ≡ getD (locationOf f (idOf f r) .extents) j noExtent .size
+  pub extent-offset : (r j : ℕ) → r < length (f .items) → j < length (locationOf f (idOf f r) .extents) →
+      wide t (9232 + 4 * (recordWord t r 7 + j)) ≡ capped
+      (fileOffset pl (locationOf f (idOf f r)) (getD (locationOf f (idOf f r) .extents) j noExtent))
   pub method : (r : ℕ) → r < length (f .items) → recordWord t r 9 ≡ locationOf f (idOf f r) .method
   pub property-kind : (k : ℕ) → k < length (f .properties) → getD t (4112 + 4 * k) 0 ≡ kindOf (getD (f .properties) k [])
   pub property-room : (k : ℕ) → k < length (f .properties) → getD t (4112 + 4 * k + 1) 0 + getD t (4112 + 4 * k + 2) 0 ≤ length head
-  pub property-part : (k : ℕ) → k < length (f .properties) → take (getD t (4112 + 4 * k + 2) 0) (drop (getD t (4112 + 4 * k + 1) 0) head) ≡ getD (f .properties) k []
+  pub property-part : (k : ℕ) → k < length (f .properties) → take (getD t (4112 + 4 * k + 2) 0)
+      (drop (getD t (4112 + 4 * k + 1) 0) head) ≡ getD (f .properties) k []
 
 pub record Judging (t : List ℕ) (f : File) : Type 0 where
   pub reference : (r : ℕ) → r < length (f .items) → recordWord t r 10 ≡ locationOf f (idOf f r) .reference

@@ -7,9 +7,8 @@ ghost use Rattle.boxes.specs.Types.{coded, derived, image};
 ghost use Rattle.boxes.specs.Box.{kindOf, bodyOf};
 ghost use Rattle.contents.specs.File.{File};
 ghost use Rattle.rules.specs.Places.{Places, fileOffset};
-ghost use Rattle.rules.specs.Joined.{associationsOf, targetsOf, locationOf, propertyAt};
+ghost use Rattle.rules.specs.Joined.{associationsOf, targetsOf, locationOf, propertyAt, noAssociation};
 ghost use Rattle.rules.specs.Words.{associationWord};
-ghost use Rattle.rules.specs.Questions.{noAssociation};
 ghost use Rattle.records.specs.Raw.{capped};
 ghost use Rattle.views.specs.View.{TableOf, recordWord, idOf, noExtent};
 ghost use Rattle.views.specs.Told.{toldRow};
@@ -86,7 +85,9 @@ pub fn type_of(table: &[u32], row: ItemRow) -> u32
 
 // The association with a number from 0, as the table has it.
 pub fn association_of(table: &[u32], row: ItemRow, j: usize) -> u32
-    ensures { λ r. ⌜ ((head : List ℕ) (pl : Places) (f : File) → TableOf (now (table .entry)) head pl f → row .0 < length (f .items) → j < length (associationsOf f (idOf f (row .0))) → r ≡ associationWord (getD (associationsOf f (idOf f (row .0))) j noAssociation)) ⌝ }
+    ensures { λ r. ⌜ ((head : List ℕ) (pl : Places) (f : File) → TableOf (now (table .entry)) head pl f →
+        row .0 < length (f .items) → j < length (associationsOf f (idOf f (row .0))) →
+        r ≡ associationWord (getD (associationsOf f (idOf f (row .0))) j noAssociation)) ⌝ }
 {
     let first = record_word(table, row, 3) as usize;
     if first < 2048 {
@@ -99,7 +100,9 @@ pub fn association_of(table: &[u32], row: ItemRow, j: usize) -> u32
 
 // The `dimg` target with a number from 0.
 pub fn target_of(table: &[u32], row: ItemRow, j: usize) -> ItemId
-    ensures { λ r. ⌜ ((head : List ℕ) (pl : Places) (f : File) → TableOf (now (table .entry)) head pl f → row .0 < length (f .items) → j < length (targetsOf f (idOf f (row .0))) → r .0 ≡ getD (targetsOf f (idOf f (row .0))) j 0) ⌝ }
+    ensures { λ r. ⌜ ((head : List ℕ) (pl : Places) (f : File) → TableOf (now (table .entry)) head pl f →
+        row .0 < length (f .items) → j < length (targetsOf f (idOf f (row .0))) →
+        r .0 ≡ getD (targetsOf f (idOf f (row .0))) j 0) ⌝ }
 {
     let first = record_word(table, row, 5) as usize;
     if first < 2048 {
@@ -125,7 +128,11 @@ fn wide(table: &[u32], k: usize) -> u64
 
 // The extent with a number from 0, its offset counted from the file's start.
 pub fn extent_of(table: &[u32], row: ItemRow, j: usize) -> Extent
-    ensures { λ r. ⌜ ((head : List ℕ) (pl : Places) (f : File) → TableOf (now (table .entry)) head pl f → row .0 < length (f .items) → j < length (locationOf f (idOf f (row .0)) .extents) → (r .size ≡ getD (locationOf f (idOf f (row .0)) .extents) j noExtent .size) × (r .offset ≡ capped (fileOffset pl (locationOf f (idOf f (row .0))) (getD (locationOf f (idOf f (row .0)) .extents) j noExtent)))) ⌝ }
+    ensures { λ r. ⌜ ((head : List ℕ) (pl : Places) (f : File) → TableOf (now (table .entry)) head pl f →
+        row .0 < length (f .items) → j < length (locationOf f (idOf f (row .0)) .extents) →
+        (r .size ≡ getD (locationOf f (idOf f (row .0)) .extents) j noExtent .size) ×
+        (r .offset ≡ capped (fileOffset pl (locationOf f (idOf f (row .0)))
+        (getD (locationOf f (idOf f (row .0)) .extents) j noExtent)))) ⌝ }
 {
     let first = record_word(table, row, 7) as usize;
     if j < 512 {
@@ -150,7 +157,8 @@ pub fn index_of(association: u32) -> PropertyIndex
 
 // The type of a property, 0 where the index names nothing.
 pub fn property_type(table: &[u32], index: PropertyIndex) -> u32
-    ensures { λ r. ⌜ ((head : List ℕ) (pl : Places) (f : File) → TableOf (now (table .entry)) head pl f → index .0 ≤ length (f .properties) → r ≡ kindOf (propertyAt f (index .0))) ⌝ }
+    ensures { λ r. ⌜ ((head : List ℕ) (pl : Places) (f : File) → TableOf (now (table .entry)) head pl f →
+        index .0 ≤ length (f .properties) → r ≡ kindOf (propertyAt f (index .0))) ⌝ }
 {
     let k = index.0;
     if k == 0 {
@@ -178,7 +186,8 @@ pub fn part(s: &[u8], at: usize, n: usize) -> &[u8]
 
 // The box of a property as a part of the head, nothing where the index names nothing.
 pub fn property_box<'a>(head: &'a [u8], table: &[u32], index: PropertyIndex) -> &'a [u8]
-    ensures { λ r. ⌜ ((pl : Places) (f : File) → TableOf (now (table .entry)) (now (head .entry)) pl f → index .0 ≤ length (f .properties) → now r ≡ propertyAt f (index .0)) ⌝ }
+    ensures { λ r. ⌜ ((pl : Places) (f : File) → TableOf (now (table .entry)) (now (head .entry)) pl f →
+        index .0 ≤ length (f .properties) → now r ≡ propertyAt f (index .0)) ⌝ }
 {
     let k = index.0;
     if k == 0 {

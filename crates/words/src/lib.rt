@@ -1,8 +1,10 @@
-// What each refusal says, in words, and each orientation. A refusal's sentence is a subject, which the place tells, and the words: `iloc` ends inside one of its fields, item 5 is made from itself.
+// What each refusal says, in words, and each orientation. A refusal's sentence is a subject, which the place tells, and
+// the words: `iloc` ends inside one of its fields, item 5 is made from itself.
 mod numbers;
 mod orientation;
 
 ghost use mathlib.Core.Path.{_≡_};
+ghost use Rattle.fields.specs.Lists.{member};
 ghost use Rattle.words.specs.Subject.{kindOf, printable, text};
 use boxes::Refusal;
 use numbers::print_asked_words;
@@ -23,22 +25,31 @@ pub enum PlaceKind {
     Asked,
 }
 
+// Whether a number is one of a list.
+fn is_among(number: u32, list: &[u32]) -> bool
+    ensures { λ r. ⌜ r ≡ member number (now (list .entry)) ⌝ }
+{
+    let n = list.len();
+    let mut i: usize = 0;
+    while i < n {
+        if number == list[i] {
+            return true;
+        }
+        i += 1;
+    }
+    false
+}
+
 pub fn place_kind(number: u32) -> PlaceKind
     ensures { λ r. ⌜ r ≡ kindOf number ⌝ }
 {
-    if number == 3 {
+    if is_among(number, &[3, 6, 7, 8, 9, 10, 11]) {
         return PlaceKind::Box;
     }
-    if number < 6 {
-        return PlaceKind::Nothing;
-    }
-    if number < 12 {
-        return PlaceKind::Box;
-    }
-    if number < 21 {
+    if is_among(number, &[12, 13, 14, 15, 16, 17, 18, 19, 20]) {
         return PlaceKind::Item;
     }
-    if number < 27 {
+    if is_among(number, &[21, 22, 23, 24, 25, 26]) {
         return PlaceKind::Asked;
     }
     PlaceKind::Nothing

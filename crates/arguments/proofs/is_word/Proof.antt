@@ -23,7 +23,13 @@ returns-2 : tie.Need-returns-2 Inv-loop μ-loop
 returns-2 c = sym (other-byte _ _ _ (c .if2 .taken))
 
 loop-again : tie.Need-loop-again Inv-loop μ-loop
-loop-again c = (omega arith, c .before .before .before .before .loop .inv .1, agree-more (c .before .before .before .before .before .before .args .s .now) (c .before .before .before .before .before .before .args .word .now) _ (c .before .before .before .before .loop .inv .2) (c .if2 .left))
+loop-again c =
+    let c4 = c .before .before .before .before in let c6 = c4 .before .before in (
+      omega arith,
+      c4 .loop .inv .1,
+      agree-more (c6 .args .s .now) (c6 .args .word .now) _ (c4 .loop .inv .2)
+          (c .if2 .left),
+    )
 
 returns-3 : tie.Need-returns-3 Inv-loop μ-loop
 returns-3 c = sym (agree-all _ _ _ (c .before .loop .inv .1) (c .loop-test .left) (c .before .loop .inv .2))

@@ -21,14 +21,22 @@ unfolding laterWordOf pick
 returns-3 c =
     let a = c .before .before .before in
     let b = a .before .before .before in
-    simp (sym (b .before .is-word .ensures) ∙ b .if1 .left, sym (a .before .is-word2 .ensures) ∙ a .if2 .left, sym (c .before .is-word3 .ensures) ∙ c .if3 .taken)
+    simp (
+      sym (b .before .is-word .ensures) ∙ b .if1 .left,
+      sym (a .before .is-word2 .ensures) ∙ a .if2 .left,
+      sym (c .before .is-word3 .ensures) ∙ c .if3 .taken,
+    )
 
 returns-4 : tie.Need-returns-4
 unfolding laterWordOf pick
 returns-4 c =
     let a = c .before .before .before in
     let b = a .before .before .before in
-    simp (sym (b .before .is-word .ensures) ∙ b .if1 .left, sym (a .before .is-word2 .ensures) ∙ a .if2 .left, sym (c .before .is-word3 .ensures) ∙ c .if3 .left)
+    simp (
+      sym (b .before .is-word .ensures) ∙ b .if1 .left,
+      sym (a .before .is-word2 .ensures) ∙ a .if2 .left,
+      sym (c .before .is-word3 .ensures) ∙ c .if3 .left,
+    )
 
 pub later-word-of-spec : {M : Type 1} → statement M
 later-word-of-spec =

@@ -12,27 +12,82 @@ returns c = simp (sym (c .before .is-word .ensures) ∙ c .if1 .taken)
 
 returns-2 : tie.Need-returns-2
 unfolding wordOf pick
-returns-2 c = simp (sym (c .before .before .before .before .is-word .ensures) ∙ c .before .before .before .if1 .left, sym (c .before .is-word2 .ensures) ∙ c .if2 .taken)
+returns-2 c =
+    let c3 = c .before .before .before in let c4 = c3 .before in
+    simp (sym (c4 .is-word .ensures) ∙ c3 .if1 .left, sym (c .before .is-word2 .ensures) ∙ c .if2 .taken)
 
 returns-3 : tie.Need-returns-3
 unfolding wordOf pick
-returns-3 c = simp (sym (c .before .before .before .before .before .before .before .is-word .ensures) ∙ c .before .before .before .before .before .before .if1 .left, sym (c .before .before .before .before .is-word2 .ensures) ∙ c .before .before .before .if2 .left, sym (c .before .is-word3 .ensures) ∙ c .if3 .taken)
+returns-3 c =
+    let c3 = c .before .before .before in let c4 = c3 .before in let c6 = c4 .before .before in let c7 = c6 .before in
+    simp (
+      sym (c7 .is-word .ensures) ∙ c6 .if1 .left,
+      sym (c4 .is-word2 .ensures) ∙ c3 .if2 .left,
+      sym (c .before .is-word3 .ensures) ∙ c .if3 .taken,
+    )
 
 returns-4 : tie.Need-returns-4
 unfolding wordOf pick
-returns-4 c = simp (sym (c .before .before .before .before .before .before .before .before .before .before .is-word .ensures) ∙ c .before .before .before .before .before .before .before .before .before .if1 .left, sym (c .before .before .before .before .before .before .before .is-word2 .ensures) ∙ c .before .before .before .before .before .before .if2 .left, sym (c .before .before .before .before .is-word3 .ensures) ∙ c .before .before .before .if3 .left, sym (c .before .is-word4 .ensures) ∙ c .if4 .taken)
+returns-4 c =
+    let c3 = c .before .before .before in let c4 = c3 .before in let c6 = c4 .before .before in let c7 = c6 .before in
+    let c9 = c7 .before .before in let c10 = c9 .before in
+    simp (
+      sym (c10 .is-word .ensures) ∙ c9 .if1 .left,
+      sym (c7 .is-word2 .ensures) ∙ c6 .if2 .left,
+      sym (c4 .is-word3 .ensures) ∙ c3 .if3 .left,
+      sym (c .before .is-word4 .ensures) ∙ c .if4 .taken,
+    )
 
 returns-5 : tie.Need-returns-5
 unfolding wordOf pick
-returns-5 c = simp (sym (c .before .before .before .before .before .before .before .before .before .before .before .before .before .is-word .ensures) ∙ c .before .before .before .before .before .before .before .before .before .before .before .before .if1 .left, sym (c .before .before .before .before .before .before .before .before .before .before .is-word2 .ensures) ∙ c .before .before .before .before .before .before .before .before .before .if2 .left, sym (c .before .before .before .before .before .before .before .is-word3 .ensures) ∙ c .before .before .before .before .before .before .if3 .left, sym (c .before .before .before .before .is-word4 .ensures) ∙ c .before .before .before .if4 .left, sym (c .before .is-word5 .ensures) ∙ c .if5 .taken)
+returns-5 c =
+    let c3 = c .before .before .before in let c4 = c3 .before in let c6 = c4 .before .before in let c7 = c6 .before in
+    let c9 = c7 .before .before in let c10 = c9 .before in let c12 = c10 .before .before in let c13 = c12 .before in
+    simp (
+      sym (c13 .is-word .ensures) ∙ c12 .if1 .left,
+      sym (c10 .is-word2 .ensures) ∙ c9 .if2 .left,
+      sym (c7 .is-word3 .ensures) ∙ c6 .if3 .left,
+      sym (c4 .is-word4 .ensures) ∙ c3 .if4 .left,
+      sym (c .before .is-word5 .ensures) ∙ c .if5 .taken,
+    )
 
 returns-6 : tie.Need-returns-6
 unfolding wordOf pick
-returns-6 c = simp (sym (c .before .before .before .before .before .before .before .before .before .before .before .before .before .before .before .before .is-word .ensures) ∙ c .before .before .before .before .before .before .before .before .before .before .before .before .before .before .before .if1 .left, sym (c .before .before .before .before .before .before .before .before .before .before .before .before .before .is-word2 .ensures) ∙ c .before .before .before .before .before .before .before .before .before .before .before .before .if2 .left, sym (c .before .before .before .before .before .before .before .before .before .before .is-word3 .ensures) ∙ c .before .before .before .before .before .before .before .before .before .if3 .left, sym (c .before .before .before .before .before .before .before .is-word4 .ensures) ∙ c .before .before .before .before .before .before .if4 .left, sym (c .before .before .before .before .is-word5 .ensures) ∙ c .before .before .before .if5 .left, sym (c .before .is-word6 .ensures) ∙ c .if6 .taken)
+returns-6 c =
+    let c3 = c .before .before .before in let c4 = c3 .before in let c6 = c4 .before .before in let c7 = c6 .before in
+    let c9 = c7 .before .before in let c10 = c9 .before in let c12 = c10 .before .before in let c13 = c12 .before in
+    let c15 = c13 .before .before in let c16 = c15 .before in
+    simp (
+      sym (c16 .is-word .ensures) ∙ c15 .if1 .left,
+      sym (c13 .is-word2 .ensures) ∙ c12 .if2 .left,
+      sym (c10 .is-word3 .ensures) ∙ c9 .if3 .left,
+      sym (c7 .is-word4 .ensures) ∙ c6 .if4 .left,
+      sym (c4 .is-word5 .ensures) ∙ c3 .if5 .left,
+      sym (c .before .is-word6 .ensures) ∙ c .if6 .taken,
+    )
 
 returns-7 : tie.Need-returns-7
 unfolding wordOf pick
-returns-7 c = let b = c .before in c .later-word-of .ensures ∙ simp (sym (b .before .before .before .before .before .before .before .before .before .before .before .before .before .before .before .before .is-word .ensures) ∙ b .before .before .before .before .before .before .before .before .before .before .before .before .before .before .before .if1 .left, sym (b .before .before .before .before .before .before .before .before .before .before .before .before .before .is-word2 .ensures) ∙ b .before .before .before .before .before .before .before .before .before .before .before .before .if2 .left, sym (b .before .before .before .before .before .before .before .before .before .before .is-word3 .ensures) ∙ b .before .before .before .before .before .before .before .before .before .if3 .left, sym (b .before .before .before .before .before .before .before .is-word4 .ensures) ∙ b .before .before .before .before .before .before .if4 .left, sym (b .before .before .before .before .is-word5 .ensures) ∙ b .before .before .before .if5 .left, sym (b .before .is-word6 .ensures) ∙ b .if6 .left)
+returns-7 c =
+    let b = c .before in
+    c .later-word-of .ensures ∙
+    simp (
+      sym
+          (b .before .before .before .before .before .before .before .before .before .before .before .before .before
+          .before .before .before .is-word .ensures) ∙
+          b .before .before .before .before .before .before .before .before .before .before .before .before .before
+          .before .before .if1 .left,
+      sym
+          (b .before .before .before .before .before .before .before .before .before .before .before .before .before
+          .is-word2 .ensures) ∙
+          b .before .before .before .before .before .before .before .before .before .before .before .before .if2 .left,
+      sym (b .before .before .before .before .before .before .before .before .before .before .is-word3 .ensures) ∙
+          b .before .before .before .before .before .before .before .before .before .if3 .left,
+      sym (b .before .before .before .before .before .before .before .is-word4 .ensures) ∙
+          b .before .before .before .before .before .before .if4 .left,
+      sym (b .before .before .before .before .is-word5 .ensures) ∙ b .before .before .before .if5 .left,
+      sym (b .before .is-word6 .ensures) ∙ b .if6 .left,
+    )
 
 pub word-of-spec : {M : Type 1} → statement M
 word-of-spec =

@@ -10,26 +10,37 @@ use Rattle.contents.proofs.read_hdlr.Tie as tie
 returns : tie.Need-returns
 unfolding toldHdlr
 returns c =
-    let a = c .before .before .before .before .before .args in
-    sym (ap toldHdlr (hdlr-short (a .place) (a .s .now) _ _ (full-here (upto 0) (a .place) (a .s .now) _ _ (sym (c .before .before .before .read-full .ensures) ∙ c .before .enum-told .given .1)) (c .if1 .taken)))
+    let c3 = c .before .before .before in let c5 = c3 .before .before in
+    let a = c5 .args in
+    sym (ap toldHdlr (hdlr-short (a .place) (a .s .now) _ _
+    (full-here (upto 0) (a .place) (a .s .now) _ _ (sym (c3 .read-full .ensures) ∙ c .before .enum-told .given .1))
+    (c .if1 .taken)))
 
 returns-2 : tie.Need-returns-2
 unfolding toldHdlr
 returns-2 c =
-    let a = c .before .before .before .before .before .before .before .args in
-    sym (ap toldHdlr (hdlr-pict (a .place) (a .s .now) _ _ (full-here (upto 0) (a .place) (a .s .now) _ _ (sym (c .before .before .before .before .before .read-full .ensures) ∙ c .before .before .before .enum-told .given .1)) (c .before .before .if1 .left) (sym (c .before .be32 .ensures) ∙ c .if2 .taken)))
+    let c2 = c .before .before in let c3 = c2 .before in let c5 = c3 .before .before in let c7 = c5 .before .before in
+    let a = c7 .args in
+    sym (ap toldHdlr (hdlr-pict (a .place) (a .s .now) _ _
+    (full-here (upto 0) (a .place) (a .s .now) _ _ (sym (c5 .read-full .ensures) ∙ c3 .enum-told .given .1))
+    (c2 .if1 .left) (sym (c .before .be32 .ensures) ∙ c .if2 .taken)))
 
 returns-3 : tie.Need-returns-3
 unfolding toldHdlr
 returns-3 c =
-    let a = c .before .before .before .before .before .args in
-    sym (ap toldHdlr (hdlr-gone (a .place) (a .s .now) _ _ (full-gone (upto 0) (a .place) (a .s .now) _ _ (sym (c .before .before .before .read-full .ensures) ∙ c .before .h .given .1))))
+    let c3 = c .before .before .before in let c5 = c3 .before .before in
+    let a = c5 .args in
+    sym (ap toldHdlr (hdlr-gone (a .place) (a .s .now) _ _
+    (full-gone (upto 0) (a .place) (a .s .now) _ _ (sym (c3 .read-full .ensures) ∙ c .before .h .given .1))))
 
 returns-4 : tie.Need-returns-4
 unfolding toldHdlr
 returns-4 c =
-    let a = c .before .before .before .before .before .before .before .args in
-    sym (ap toldHdlr (hdlr-other (a .place) (a .s .now) _ _ (full-here (upto 0) (a .place) (a .s .now) _ _ (sym (c .before .before .before .before .before .read-full .ensures) ∙ c .before .before .before .enum-told .given .1)) (c .before .before .if1 .left) (λ e. c .if2 .left (c .before .be32 .ensures ∙ e))))
+    let c2 = c .before .before in let c3 = c2 .before in let c5 = c3 .before .before in let c7 = c5 .before .before in
+    let a = c7 .args in
+    sym (ap toldHdlr (hdlr-other (a .place) (a .s .now) _ _
+    (full-here (upto 0) (a .place) (a .s .now) _ _ (sym (c5 .read-full .ensures) ∙ c3 .enum-told .given .1))
+    (c2 .if1 .left) (λ e. c .if2 .left (c .before .be32 .ensures ∙ e))))
 
 pub read-hdlr-spec : {M : Type 1} → statement M
 read-hdlr-spec =

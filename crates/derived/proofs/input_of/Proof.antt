@@ -7,11 +7,15 @@ use Rattle.derived.proofs.input_of.Tie as tie
 
 returns : tie.Need-returns
 returns c =
-    let a = c .before .before .before .before .before .args in
-    λ head pl f v w h l. input-row v (a .row .0) h (a .rows .now) w (a .j) l _ _ (c .before .before .record-word .ensures) (c .word .ensures)
+    let c2 = c .before .before in let c5 = c2 .before .before .before in
+    let a = c5 .args in
+    λ head pl f v w h l. input-row v (a .row .0) h (a .rows .now) w (a .j) l _ _ (c2 .record-word .ensures)
+    (c .word .ensures)
 
 returns-2 : tie.Need-returns-2
-returns-2 c = λ head pl f v w h l. absurd (omega (arith, inputs-few v (c .before .before .before .before .args .row .0) h))
+returns-2 c =
+    let c4 = c .before .before .before .before in
+    λ head pl f v w h l. absurd (omega (arith, inputs-few v (c4 .args .row .0) h))
 
 pub input-of-spec : {M : Type 1} → statement M
 input-of-spec =

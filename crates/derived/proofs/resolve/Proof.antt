@@ -13,7 +13,9 @@ use Rattle.derived.proofs.resolve.Statement.{statement}
 use Rattle.derived.proofs.resolve.Tie as tie
 
 abbrev Inv-loop : tie.InvT-loop
-Inv-loop table rows₀ n row₀ k₀ rows row k = (k ≤ n) × (length rows ≡ length rows₀) × (row < 4294967296) × ((head : List ℕ) (pl : Places) (f : File) → TableOf table head pl f → ResolvedTo table rows f k)
+Inv-loop table rows₀ n row₀ k₀ rows row k =
+    (k ≤ n) × (length rows ≡ length rows₀) × (row < 4294967296) ×
+    ((head : List ℕ) (pl : Places) (f : File) → TableOf table head pl f → ResolvedTo table rows f k)
 
 abbrev μ-loop : tie.MeasureT-loop
 μ-loop table rows₀ n row₀ k₀ rows row k = n - k
@@ -32,17 +34,25 @@ slice-write-rows c = omega (arith, c .before .before .before .loop .inv .1)
 
 loop-again : tie.Need-loop-again Inv-loop μ-loop
 loop-again c =
-    let q = c .before .before .before .loop in
-    let l : q .k < length (q .rows) = omega (arith, q .inv .1) in
-    (omega arith, simp length-set (q .inv .1), omega arith, λ head pl f v. resolved-more (c .before .before .before .before .before .before .before .before .before .args .table .now) (q .rows) f (q .k) _ _ l (c .before .word2 .ensures) (c .row-or-end .ensures head pl f v) (q .inv .3 head pl f v))
+    let c3 = c .before .before .before in let c9 = c3 .before .before .before .before .before .before in
+    let q = c3 .loop in
+    let l : q .k < length (q .rows) = omega (arith, q .inv .1) in (
+      omega arith,
+      simp length-set (q .inv .1),
+      omega arith,
+      λ head pl f v. resolved-more (c9 .args .table .now)
+          (q .rows) f (q .k) _ _ l (c .before .word2 .ensures) (c .row-or-end .ensures head pl f v)
+          (q .inv .3 head pl f v),
+    )
 
 returns-3 : tie.Need-returns-3 Inv-loop μ-loop
 returns-3 c =
     let l = c .before .loop in
-    λ head pl f v. resolved-all v (l .rows) _ (l .k) (c .before .before .before .word .ensures) (omega arith) (l .inv .3 head pl f v)
+    λ head pl f v. resolved-all v (l .rows) _ (l .k) (c .before .before .before .word .ensures) (omega arith)
+    (l .inv .3 head pl f v)
 
 pub resolve-spec : {M : Type 1} → statement M
 resolve-spec =
     tie.close (tie.spec Inv-loop μ-loop returns (λ c κs. search needs) (search needs) returns-2 loop-holds
-    (search needs) (λ c κs. search needs) (search needs) (search needs) (λ c κs. search needs) (search needs) slice-write-rows
-    (search needs) (search needs) loop-again (search needs) returns-3)
+    (search needs) (λ c κs. search needs) (search needs) (search needs) (λ c κs. search needs) (search needs)
+    slice-write-rows (search needs) (search needs) loop-again (search needs) returns-3)

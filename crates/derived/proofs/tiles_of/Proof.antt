@@ -9,18 +9,33 @@ use Rattle.derived.proofs.tiles_of.Statement.{statement}
 use Rattle.derived.proofs.tiles_of.Tie as tie
 
 mul-if1 : tie.Need-mul-if1
-mul-if1 c = omega (arith, mul-le-mul-right {m = c .before .before .g .given .0 .0} {n = 4294967295} (c .before .before .g .given .0 .1 .0) (omega arith))
+mul-if1 c =
+    let c2 = c .before .before in
+    omega (arith, mul-le-mul-right {m = c2 .g .given .0 .0} {n = 4294967295} (c2 .g .given .0 .1 .0) (omega arith))
 
 returns : tie.Need-returns
-returns c = λ total pl f v h placed. tiles-is total _ f (itemAt f (c .before .before .before .before .before .before .before .before .before .args .row .0)) _ (c .before .before .before .before .before .before .body-of .ensures total pl f v h placed) _ _ _ _ (sym (c .before .before .before .g .given .1) ∙ c .before .before .before .before .before .read-grid .ensures) _ (c .before .input-count .ensures _ pl f v h) (c .if1 .taken)
+returns c =
+    let c3 = c .before .before .before in let c5 = c3 .before .before in let c6 = c5 .before in
+    let c9 = c6 .before .before .before in
+    λ total pl f v h placed. tiles-is total _ f (itemAt f (c9 .args .row .0)) _
+    (c6 .body-of .ensures total pl f v h placed) _ _ _ _ (sym (c3 .g .given .1) ∙ c5 .read-grid .ensures) _
+    (c .before .input-count .ensures _ pl f v h) (c .if1 .taken)
 
 returns-2 : tie.Need-returns-2
-returns-2 c = λ total pl f v h placed. tiles-wrong total _ f (itemAt f (c .before .before .before .before .before .before .args .row .0)) _ (c .before .before .before .body-of .ensures total pl f v h placed) (sym (c .enum-told .given .1) ∙ c .before .before .read-grid .ensures)
+returns-2 c =
+    let c2 = c .before .before in let c3 = c2 .before in let c6 = c3 .before .before .before in
+    λ total pl f v h placed. tiles-wrong total _ f (itemAt f (c6 .args .row .0)) _
+    (c3 .body-of .ensures total pl f v h placed) (sym (c .enum-told .given .1) ∙ c2 .read-grid .ensures)
 
 returns-3 : tie.Need-returns-3
-returns-3 c = λ total pl f v h placed. tiles-inputs total _ f (itemAt f (c .before .before .before .before .before .before .before .before .before .args .row .0)) _ (c .before .before .before .before .before .before .body-of .ensures total pl f v h placed) _ _ _ _ (sym (c .before .before .before .g .given .1) ∙ c .before .before .before .before .before .read-grid .ensures) _ (c .before .input-count .ensures _ pl f v h) (c .if1 .left)
+returns-3 c =
+    let c3 = c .before .before .before in let c5 = c3 .before .before in let c6 = c5 .before in
+    let c9 = c6 .before .before .before in
+    λ total pl f v h placed. tiles-inputs total _ f (itemAt f (c9 .args .row .0)) _
+    (c6 .body-of .ensures total pl f v h placed) _ _ _ _ (sym (c3 .g .given .1) ∙ c5 .read-grid .ensures) _
+    (c .before .input-count .ensures _ pl f v h) (c .if1 .left)
 
 pub tiles-of-spec : {M : Type 1} → statement M
 tiles-of-spec =
-    tie.close (tie.spec (λ c κs. search needs) (search needs) (search needs) (search needs) (search needs) (search needs)
-    (search needs) mul-if1 returns returns-2 returns-3)
+    tie.close (tie.spec (λ c κs. search needs) (search needs) (search needs) (search needs) (search needs)
+    (search needs) (search needs) mul-if1 returns returns-2 returns-3)

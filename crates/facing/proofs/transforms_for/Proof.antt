@@ -21,12 +21,19 @@ unfolding toldTransforms transformsIn check _>>_
 returns-9 c =
     let n = c .before .args .orientation in
     let r = c .match .rest in
-    rw (and-false (leb 1 n) (leb n 8) (λ a b.
-    let low : 5 ≤ n = omega (arith, leb-true 1 n a, r .0 .0 .0 .0 .0 .0 .0 .1, r .0 .0 .0 .0 .0 .0 .1, r .0 .0 .0 .0 .0 .1, r .0 .0 .0 .0 .1) in
-    omega (arith, low, leb-true n 8 b, r .0 .0 .0 .1, r .0 .0 .1, r .0 .1, r .1)))
+    rw (and-false (leb 1 n) (leb n 8) (λ a b. let low : 5 ≤ n =
+    omega (
+      arith,
+      leb-true 1 n a,
+      r .0 .0 .0 .0 .0 .0 .0 .1,
+      r .0 .0 .0 .0 .0 .0 .1,
+      r .0 .0 .0 .0 .0 .1,
+      r .0 .0 .0 .0 .1,
+    ) in omega (arith, low, leb-true n 8 b, r .0 .0 .0 .1, r .0 .0 .1, r .0 .1, r .1)))
 
 pub transforms-for-spec : {M : Type 1} → statement M
 unfolding toldTransforms toldTransform transformsIn transformsFor lists check _>>_
 transforms-for-spec =
-    tie.close (tie.spec (λ c. by (c .match .keys1)) (λ c. by (c .match .keys2)) (λ c. by (c .match .keys3)) (λ c. by (c .match .keys4))
-    (λ c. by (c .match .keys5)) (λ c. by (c .match .keys6)) (λ c. by (c .match .keys7)) (λ c. by (c .match .keys8)) returns-9)
+    tie.close (tie.spec (λ c. by (c .match .keys1)) (λ c. by (c .match .keys2)) (λ c. by (c .match .keys3))
+    (λ c. by (c .match .keys4)) (λ c. by (c .match .keys5)) (λ c. by (c .match .keys6)) (λ c. by (c .match .keys7))
+    (λ c. by (c .match .keys8)) returns-9)

@@ -6,7 +6,9 @@ use Rattle.input.proofs.read_input.Statement.{statement}
 use Rattle.input.proofs.read_input.Tie as tie
 
 returns-2 : tie.Need-returns-2
-returns-2 c = (c .before .before .before .before .before .before .read-full .ensures, subst (AtLeast _) (c .before .counted .given .1) (c .before .before .before .count-on .ensures))
+returns-2 c =
+    let c3 = c .before .before .before in let c6 = c3 .before .before .before in
+    (c6 .read-full .ensures, subst (AtLeast _) (c .before .counted .given .1) (c3 .count-on .ensures))
 
 pub read-input-spec : {M : Type 1} → statement M
 read-input-spec =

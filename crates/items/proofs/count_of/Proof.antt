@@ -10,13 +10,28 @@ add-if1 : tie.Need-add-if1
 add-if1 c = ⊎-elim (λ e. omega arith) (λ e. omega arith) (c .before .pre .1)
 
 returns : tie.Need-returns
-returns c = let a = c .before .before .args in λ h e w. count-short (a .place) (a .s .now) h _ (c .before .before .pre .0) e w (c .if1 .taken)
+returns c =
+    let c2 = c .before .before in
+    let a = c2 .args in
+    λ h e w. count-short (a .place) (a .s .now) h _ (c2 .pre .0) e w (c .if1 .taken)
 
 returns-2 : tie.Need-returns-2
-returns-2 c = let a = c .before .before .before .before .args in λ h e w. count-many (a .place) (a .s .now) h _ (c .before .before .before .before .pre .0) e w (c .before .before .if1 .left) _ (c .before .be-id .ensures) (c .if2 .taken)
+returns-2 c =
+    let c2 = c .before .before in let c4 = c2 .before .before in
+    let a = c4 .args in
+    λ h e w. count-many (a .place) (a .s .now) h _ (c4 .pre .0) e w (c2 .if1 .left) _ (c .before .be-id .ensures)
+    (c .if2 .taken)
 
 returns-3 : tie.Need-returns-3
-returns-3 c = let a = c .before .before .before .before .args in λ h e w. (count-is (a .place) (a .s .now) h _ (c .before .before .before .before .pre .0) e w (c .before .before .if1 .left) _ (c .before .be-id .ensures) (c .if2 .left), c .before .before .if1 .left, c .if2 .left)
+returns-3 c =
+    let c2 = c .before .before in let c4 = c2 .before .before in
+    let a = c4 .args in
+    λ h e w. (
+      count-is (a .place) (a .s .now) h _ (c4 .pre .0) e w (c2 .if1 .left) _ (c .before .be-id .ensures)
+          (c .if2 .left),
+      c2 .if1 .left,
+      c .if2 .left,
+    )
 
 pub count-of-spec : {M : Type 1} → statement M
 count-of-spec =

@@ -9,19 +9,35 @@ use Rattle.items.proofs.is_taken.Statement.{statement}
 use Rattle.items.proofs.is_taken.Tie as tie
 
 returns : tie.Need-returns
-returns c = sym (taken-high (c .before .before .before .before .before .args .table .now) _ _ _ _ (c .before .before .before .before .before .pre) (c .if1 .taken))
+returns c =
+    let c5 = c .before .before .before .before .before in
+    sym (taken-high (c5 .args .table .now) _ _ _ _ (c5 .pre) (c .if1 .taken))
 
 returns-2 : tie.Need-returns-2
-returns-2 c = sym (taken-low (c .before .before .before .before .before .before .before .args .table .now) _ _ _ _ (c .before .before .before .before .before .before .before .pre) (c .if2 .taken))
+returns-2 c =
+    let c7 = c .before .before .before .before .before .before .before in
+    sym (taken-low (c7 .args .table .now) _ _ _ _ (c7 .pre) (c .if2 .taken))
 
 returns-3 : tie.Need-returns-3
-returns-3 c = sym (taken-unfilled (c .before .before .before .before .before .before .before .before .before .before .args .table .now) _ _ _ _ (c .before .before .before .before .before .before .before .before .before .before .pre) (ap (λ (k : ℕ). getD (c .before .before .before .before .before .before .before .before .before .before .args .slots .now) k 0) (sym (c .before .before .slot-of .ensures)) ∙ sym (c .before .word .ensures) ∙ c .if3 .taken))
+returns-3 c =
+    let c2 = c .before .before in let c10 = c2 .before .before .before .before .before .before .before .before in
+    sym (taken-unfilled (c10 .args .table .now) _ _ _ _ (c10 .pre)
+    (ap (λ (k : ℕ). getD (c10 .args .slots .now) k 0) (sym (c2 .slot-of .ensures)) ∙
+    sym (c .before .word .ensures) ∙ c .if3 .taken))
 
 returns-4 : tie.Need-returns-4
-returns-4 c = let a = c .before .before .before .before .before .before .before .before .before .before .before .before .before .args in sym (found-some (a .table .now) (a .n) (a .id .0) _ _ (c .before .before .row-in-slot .ensures) (c .enum-told .given .1))
+returns-4 c =
+    let c2 = c .before .before in
+    let c13 = c2 .before .before .before .before .before .before .before .before .before .before .before in
+    let a = c13 .args in
+    sym (found-some (a .table .now) (a .n) (a .id .0) _ _ (c2 .row-in-slot .ensures) (c .enum-told .given .1))
 
 returns-5 : tie.Need-returns-5
-returns-5 c = let a = c .before .before .before .before .before .before .before .before .before .before .before .before .before .args in sym (found-none (a .table .now) (a .n) (a .id .0) _ (c .before .before .row-in-slot .ensures) (c .enum-told2 .given .1))
+returns-5 c =
+    let c2 = c .before .before in
+    let c13 = c2 .before .before .before .before .before .before .before .before .before .before .before in
+    let a = c13 .args in
+    sym (found-none (a .table .now) (a .n) (a .id .0) _ (c2 .row-in-slot .ensures) (c .enum-told2 .given .1))
 
 pub is-taken-spec : {M : Type 1} → statement M
 is-taken-spec =

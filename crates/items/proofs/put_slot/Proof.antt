@@ -16,9 +16,11 @@ slice-write-slots-2 : tie.Need-slice-write-slots-2
 slice-write-slots-2 c = simp length-set (omega (arith, c .before .slot-of .ensures))
 
 returns : tie.Need-returns
-returns c = let a = c .before .before .before .args in slot-put (a .slots .now) (a .row .0) (a .id .0) _ (c .before .slot-of .ensures)
+returns c =
+    let a = c .before .before .before .args in
+    slot-put (a .slots .now) (a .row .0) (a .id .0) _ (c .before .slot-of .ensures)
 
 pub put-slot-spec : {M : Type 1} → statement M
 put-slot-spec =
-    tie.close (tie.spec (search needs) (search needs) slice-read-slots (search needs) (search needs) slice-write-slots (search needs)
-    (search needs) (search needs) slice-write-slots-2 (search needs) returns)
+    tie.close (tie.spec (search needs) (search needs) slice-read-slots (search needs) (search needs) slice-write-slots
+    (search needs) (search needs) (search needs) slice-write-slots-2 (search needs) returns)

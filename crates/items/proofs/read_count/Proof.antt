@@ -11,19 +11,37 @@ use Rattle.items.proofs.read_count.Statement.{statement}
 use Rattle.items.proofs.read_count.Tie as tie
 
 count-of-requires : tie.Need-count-of-requires
-count-of-requires c κs = let a = c .before .before .before .before .before .before .args in (full-here (upto 1) (a .place) (a .s .now) _ _ (sym (c .before .before .before .before .read-full .ensures) ∙ c .before .before .h2 .given .1) .room, inl refl)
+count-of-requires c κs =
+    let c2 = c .before .before in let c4 = c2 .before .before in let c6 = c4 .before .before in
+    let a = c6 .args in
+    (full-here (upto 1) (a .place) (a .s .now) _ _ (sym (c4 .read-full .ensures) ∙ c2 .h2 .given .1) .room, inl refl)
 
 returns : tie.Need-returns
-returns c = let a = c .before .before .before .before .before .before .before .args in c .count-of .ensures _ (full-here (upto 1) (a .place) (a .s .now) _ _ (sym (c .before .before .before .before .before .read-full .ensures) ∙ c .before .before .before .h2 .given .1) .read) (pick-yes _ _ (eq-eqb _ _ (c .before .if1 .taken)))
+returns c =
+    let c3 = c .before .before .before in let c5 = c3 .before .before in let c7 = c5 .before .before in
+    let a = c7 .args in
+    c .count-of .ensures _ (full-here (upto 1) (a .place) (a .s .now) _ _
+    (sym (c5 .read-full .ensures) ∙ c3 .h2 .given .1) .read) (pick-yes _ _ (eq-eqb _ _ (c .before .if1 .taken)))
 
 count-of-requires-2 : tie.Need-count-of-requires-2
-count-of-requires-2 c κs = let a = c .before .before .before .before .before .before .args in (full-here (upto 1) (a .place) (a .s .now) _ _ (sym (c .before .before .before .before .read-full .ensures) ∙ c .before .before .h2 .given .1) .room, inr refl)
+count-of-requires-2 c κs =
+    let c2 = c .before .before in let c4 = c2 .before .before in let c6 = c4 .before .before in
+    let a = c6 .args in
+    (full-here (upto 1) (a .place) (a .s .now) _ _ (sym (c4 .read-full .ensures) ∙ c2 .h2 .given .1) .room, inr refl)
 
 returns-2 : tie.Need-returns-2
-returns-2 c = let a = c .before .before .before .before .before .args in count-gone (a .place) (a .s .now) _ _ (full-gone (upto 1) (a .place) (a .s .now) _ _ (sym (c .before .before .before .read-full .ensures) ∙ c .before .h .given .1))
+returns-2 c =
+    let c3 = c .before .before .before in let c5 = c3 .before .before in
+    let a = c5 .args in
+    count-gone (a .place) (a .s .now) _ _ (full-gone (upto 1) (a .place) (a .s .now) _ _
+    (sym (c3 .read-full .ensures) ∙ c .before .h .given .1))
 
 returns-3 : tie.Need-returns-3
-returns-3 c = let a = c .before .before .before .before .before .before .before .args in c .count-of2 .ensures _ (full-here (upto 1) (a .place) (a .s .now) _ _ (sym (c .before .before .before .before .before .read-full .ensures) ∙ c .before .before .before .h2 .given .1) .read) (pick-no _ _ (ne-eqb _ _ (c .before .if1 .left)))
+returns-3 c =
+    let c3 = c .before .before .before in let c5 = c3 .before .before in let c7 = c5 .before .before in
+    let a = c7 .args in
+    c .count-of2 .ensures _ (full-here (upto 1) (a .place) (a .s .now) _ _
+    (sym (c5 .read-full .ensures) ∙ c3 .h2 .given .1) .read) (pick-no _ _ (ne-eqb _ _ (c .before .if1 .left)))
 
 pub read-count-spec : {M : Type 1} → statement M
 read-count-spec =

@@ -12,20 +12,44 @@ use Rattle.items.proofs.read_infe.Statement.{statement}
 use Rattle.items.proofs.read_infe.Tie as tie
 
 read-info-requires : tie.Need-read-info-requires
-read-info-requires c κs = let a = c .before .before .before .before .before .before .before .before .args in (full-here (between 2 3) (a .place) (a .s .now) _ _ (sym (c .before .before .before .before .read-full .ensures) ∙ c .before .before .h2 .given .1) .room, inl refl, c .before .before .before .before .before .before .before .before .pre)
+read-info-requires c κs =
+    let c2 = c .before .before in let c4 = c2 .before .before in let c8 = c4 .before .before .before .before in
+    let a = c8 .args in (
+      full-here (between 2 3) (a .place) (a .s .now) _ _ (sym (c4 .read-full .ensures) ∙ c2 .h2 .given .1) .room,
+      inl refl,
+      c8 .pre,
+    )
 
 returns : tie.Need-returns
-returns c = let a = c .before .before .before .before .before .before .before .before .before .args in c .read-info .ensures _ (full-here (between 2 3) (a .place) (a .s .now) _ _ (sym (c .before .before .before .before .before .read-full .ensures) ∙ c .before .before .before .h2 .given .1) .read) (pick-yes _ _ (eq-eqb _ _ (c .before .if1 .taken)))
+returns c =
+    let c3 = c .before .before .before in let c5 = c3 .before .before in let c9 = c5 .before .before .before .before in
+    let a = c9 .args in
+    c .read-info .ensures _ (full-here (between 2 3) (a .place) (a .s .now) _ _
+    (sym (c5 .read-full .ensures) ∙ c3 .h2 .given .1) .read) (pick-yes _ _ (eq-eqb _ _ (c .before .if1 .taken)))
 
 read-info-requires-2 : tie.Need-read-info-requires-2
-read-info-requires-2 c κs = let a = c .before .before .before .before .before .before .before .before .args in (full-here (between 2 3) (a .place) (a .s .now) _ _ (sym (c .before .before .before .before .read-full .ensures) ∙ c .before .before .h2 .given .1) .room, inr refl, c .before .before .before .before .before .before .before .before .pre)
+read-info-requires-2 c κs =
+    let c2 = c .before .before in let c4 = c2 .before .before in let c8 = c4 .before .before .before .before in
+    let a = c8 .args in (
+      full-here (between 2 3) (a .place) (a .s .now) _ _ (sym (c4 .read-full .ensures) ∙ c2 .h2 .given .1) .room,
+      inr refl,
+      c8 .pre,
+    )
 
 returns-2 : tie.Need-returns-2
 unfolding toldInfe
-returns-2 c = let a = c .before .before .before .before .before .before .before .args in λ before e. sym (ap toldInfe (infe-gone before (a .place) (a .s .now) _ _ (full-gone (between 2 3) (a .place) (a .s .now) _ _ (sym (c .before .before .before .read-full .ensures) ∙ c .before .h .given .1))))
+returns-2 c =
+    let c3 = c .before .before .before in let c7 = c3 .before .before .before .before in
+    let a = c7 .args in
+    λ before e. sym (ap toldInfe (infe-gone before (a .place) (a .s .now) _ _
+    (full-gone (between 2 3) (a .place) (a .s .now) _ _ (sym (c3 .read-full .ensures) ∙ c .before .h .given .1))))
 
 returns-3 : tie.Need-returns-3
-returns-3 c = let a = c .before .before .before .before .before .before .before .before .before .args in c .read-info2 .ensures _ (full-here (between 2 3) (a .place) (a .s .now) _ _ (sym (c .before .before .before .before .before .read-full .ensures) ∙ c .before .before .before .h2 .given .1) .read) (pick-no _ _ (ne-eqb _ _ (c .before .if1 .left)))
+returns-3 c =
+    let c3 = c .before .before .before in let c5 = c3 .before .before in let c9 = c5 .before .before .before .before in
+    let a = c9 .args in
+    c .read-info2 .ensures _ (full-here (between 2 3) (a .place) (a .s .now) _ _
+    (sym (c5 .read-full .ensures) ∙ c3 .h2 .given .1) .read) (pick-no _ _ (ne-eqb _ _ (c .before .if1 .left)))
 
 pub read-infe-spec : {M : Type 1} → statement M
 read-infe-spec =

@@ -19,11 +19,17 @@ loop-holds c = (omega arith, λ k h l. absurd (omega arith))
 
 loop-again : tie.Need-loop-again Inv-loop μ-loop
 loop-again c =
-    let a = c .before .before .before .before .before .before .args in
-    let q = c .before .before .before .loop in
+    let c3 = c .before .before .before in let c6 = c3 .before .before .before in
+    let a = c6 .args in
+    let q = c3 .loop in
     let d = c .before .record-word in
-    let larger : (q .deepest ≤ c .if1 .deepest) × (d .result ≤ c .if1 .deepest) = ⊎-elim (λ w. (omega (arith, w .0 .taken, w .1), omega (arith, w .1))) (λ w. (omega (arith, w .1), omega (arith, w .0 .left, w .1))) (c .if1 .came) in
-    (omega arith, none-larger (λ k. recordWord (a .table .now) k 14) (q .r) (q .deepest) (d .result) (c .if1 .deepest) (q .inv .1) (d .ensures) larger)
+    let larger : (q .deepest ≤ c .if1 .deepest) × (d .result ≤ c .if1 .deepest) =
+    ⊎-elim (λ w. (omega (arith, w .0 .taken, w .1), omega (arith, w .1)))
+    (λ w. (omega (arith, w .1), omega (arith, w .0 .left, w .1))) (c .if1 .came) in (
+      omega arith,
+      none-larger (λ k. recordWord (a .table .now) k 14) (q .r) (q .deepest) (d .result) (c .if1 .deepest)
+          (q .inv .1) (d .ensures) larger,
+    )
 
 returns : tie.Need-returns Inv-loop μ-loop
 returns c = λ r h l. c .before .loop .inv .1 r (omega (arith, c .before .before .item-count .ensures)) l

@@ -11,16 +11,21 @@ use Rattle.judging.proofs.is_misfit.Tie as tie
 
 returns : tie.Need-returns
 returns c =
-    let a = c .before .before .before .before .before .before .args in
-    λ total f d h.
-    misfit-opaque (sceneOf total (a .head .now) f) f (a .row .0) (sym (not-true _ (c .if1 .taken)) ∙ c .before .is-image .ensures ∙ ap image (c .before .before .type-of .ensures (omega (arith, d .view .bounded .few-items)) ∙ d .view .type (a .row .0) h))
+    let c2 = c .before .before in let c6 = c2 .before .before .before .before in
+    let a = c6 .args in
+    λ total f d h. misfit-opaque (sceneOf total (a .head .now) f) f (a .row .0)
+    (sym (not-true _ (c .if1 .taken)) ∙ c .before .is-image .ensures ∙
+    ap image (c2 .type-of .ensures (omega (arith, d .view .bounded .few-items)) ∙ d .view .type (a .row .0) h))
 
 returns-2 : tie.Need-returns-2
 returns-2 c =
-    let a = c .before .before .before .before .before .before .before .args in
+    let c2 = c .before .before in let c3 = c2 .before in let c7 = c3 .before .before .before .before in
+    let a = c7 .args in
     λ total f d h.
-    let drawn = sym (not-false _ (c .before .if1 .left)) ∙ c .before .before .is-image .ensures ∙ ap image (c .before .before .before .type-of .ensures (omega (arith, d .view .bounded .few-items)) ∙ d .view .type (a .row .0) h) in
-    misfit-sized (sceneOf total (a .head .now) f) f (a .row .0) drawn (c .good-sizes .result) (c .good-sizes .ensures total f d h (sym drawn))
+    let drawn = sym (not-false _ (c .before .if1 .left)) ∙ c2 .is-image .ensures ∙
+    ap image (c3 .type-of .ensures (omega (arith, d .view .bounded .few-items)) ∙ d .view .type (a .row .0) h) in
+    misfit-sized (sceneOf total (a .head .now) f) f (a .row .0) drawn (c .good-sizes .result)
+    (c .good-sizes .ensures total f d h (sym drawn))
 
 pub is-misfit-spec : {M : Type 1} → statement M
 is-misfit-spec = tie.close (tie.spec (search needs) (search needs) returns (search needs) returns-2)

@@ -5,7 +5,9 @@ use Rattle.judging.proofs.judge_itself.Statement.{statement}
 use Rattle.judging.proofs.judge_itself.Tie as tie
 
 returns : tie.Need-returns
-returns c = λ f d. itself-grounded _ _ f d _ (c .before .before .before .item-count .ensures) (c .before .all-grounded .ensures (c .if2 .taken))
+returns c =
+    λ f d. itself-grounded _ _ f d _ (c .before .before .before .item-count .ensures)
+    (c .before .all-grounded .ensures (c .if2 .taken))
 
 pub judge-itself-spec : {M : Type 1} → statement M
 judge-itself-spec =

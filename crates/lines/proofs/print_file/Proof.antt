@@ -12,6 +12,6 @@ abbrev μ-loop : tie.MeasureT-loop
 
 pub print-file-spec : {M : Type 1} → statement M
 print-file-spec =
-    tie.close (tie.spec Inv-loop μ-loop (search needs) (λ c κs. search needs) (search needs) (search needs) (search needs)
-    (search needs) (search needs) (λ c κs. search needs) (λ c. search needs) (search needs) (search needs) (search needs)
-    (search needs) (λ c. search needs) (λ c. search needs))
+    tie.close (tie.spec Inv-loop μ-loop (search needs) (λ c κs. search needs) (search needs) (search needs)
+    (search needs) (search needs) (search needs) (λ c κs. search needs) (λ c. search needs) (search needs)
+    (search needs) (search needs) (search needs) (λ c. search needs) (λ c. search needs))

@@ -9,5 +9,5 @@ returns c = rw (sym (c .before .before .is-size .ensures) ∙ c .before .if1 .ta
 
 pub are-sizes-spec : {M : Type 1} → statement M
 are-sizes-spec =
-    tie.close (tie.spec (search needs) (search needs) returns
-    (λ c. rw (sym (c .before .is-size .ensures) ∙ c .if1 .left)))
+    tie.close (tie.spec (search needs) (search needs) returns (λ c. rw
+    (sym (c .before .is-size .ensures) ∙ c .if1 .left)))

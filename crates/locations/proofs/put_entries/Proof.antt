@@ -1,4 +1,5 @@
--- `locations::put_entries` meets its contract. The loop's invariant is `So`: the entries so far are read and in the table. The measure is how many are left. Assumes nothing.
+-- `locations::put_entries` meets its contract. The loop's invariant is `So`: the entries so far are read and in the
+-- table. The measure is how many are left. Assumes nothing.
 use Prim.Native.Nat.{_-_}
 use mathlib.Core.Path.{sym, ap, _∙_, subst}
 use Rattle.locations.specs.Told.{toldLocations}
@@ -10,68 +11,84 @@ use Rattle.locations.proofs.put_entries.Statement.{statement}
 use Rattle.locations.proofs.put_entries.Tie as tie
 
 abbrev Inv-loop : tie.InvT-loop
-Inv-loop s from count w place table₀ n slots idat at₀ used₀ hope₀ i₀ table at used hope i = So s from count w place n idat table₀ table at used i
+Inv-loop s from count w place table₀ n slots idat at₀ used₀ hope₀ i₀ table at used hope i =
+    So s from count w place n idat table₀ table at used i
 
 abbrev μ-loop : tie.MeasureT-loop
 μ-loop s from count w place table₀ n slots idat at₀ used₀ hope₀ i₀ table at used hope i = count - i
 
 loop-holds : tie.Need-loop-holds Inv-loop μ-loop
 loop-holds c =
-    let a = c .before .before .before .args in
-    so-start (a .s .now) (a .from) (a .count) (a .w) (a .place) (a .n) (a .idat) (a .table .now) (c .before .before .before .pre .0) (c .before .before .before .pre .4)
+    let c3 = c .before .before .before in
+    let a = c3 .args in
+    so-start (a .s .now) (a .from) (a .count) (a .w) (a .place) (a .n) (a .idat) (a .table .now) (c3 .pre .0)
+    (c3 .pre .4)
 
 put-entry-requires : tie.Need-put-entry-requires Inv-loop μ-loop
 put-entry-requires c κs =
-    let p = c .before .before .before .before .before .before .pre in
-    let h = c .before .before .loop .inv in
+    let c2 = c .before .before in let c6 = c2 .before .before .before .before in
+    let p = c6 .pre in
+    let h = c2 .loop .inv in
     let e = h .kept .same-length in
     (h .room, p .1, h .few, p .2, rw e (p .3))
 
 same-length : tie.Need-same-length Inv-loop μ-loop
 same-length c =
-    c .before .before .before .before .before .put-entry .kept .1 .1 .1 .1 .0 ∙ c .before .before .before .before .before .before .before .before .loop .inv .kept .same-length
+    let c5 = c .before .before .before .before .before in let c8 = c5 .before .before .before in
+    c5 .put-entry .kept .1 .1 .1 .1 .0 ∙ c8 .loop .inv .kept .same-length
 
 returns : tie.Need-returns Inv-loop μ-loop
 unfolding toldLocations
 returns c =
-    let a = c .before .before .before .before .before .before .before .before .before .before .before .before .args in
-    let l = c .before .before .before .before .before .before .before .before .loop in
-    let e = c .before .before .before .before .before .put-entry in
+    let c5 = c .before .before .before .before .before in let c7 = c5 .before .before in let c8 = c7 .before in
+    let c12 = c8 .before .before .before .before in
+    let a = c12 .args in
+    let l = c8 .loop in
+    let e = c5 .put-entry in
     let u = e .last .1 .1 .1 .1 .0 in
-    let z = subst (PutAre (l .table) u (a .n) (a .w) (l .used) (a .place) (a .s .now) (l .at) (a .idat)) (c .before .t .given .1) (e .ensures) in
-    let w = so-refused (a .s .now) (a .from) (a .count) (a .w) (a .place) (a .n) (a .idat) (a .table .now)
-    (l .table) u (l .at) (l .used) (l .i) (l .inv) (c .before .before .before .before .before .before .before .loop-test .taken) _ z in
+    let z = subst (PutAre (l .table) u (a .n) (a .w) (l .used) (a .place) (a .s .now) (l .at) (a .idat))
+    (c .before .t .given .1) (e .ensures) in
+    let w = so-refused (a .s .now) (a .from) (a .count) (a .w) (a .place) (a .n) (a .idat) (a .table .now) (l .table) u
+    (l .at) (l .used) (l .i) (l .inv) (c7 .loop-test .taken) _ z in
     (sym (ap toldLocations (w .0)), w .1)
 
 add-used : tie.Need-add-used Inv-loop μ-loop
 add-used c =
-    let a = c .before .before .before .before .before .before .before .before .before .before .before .before .args in
-    let l = c .before .before .before .before .before .before .before .before .loop in
-    let e = c .before .before .before .before .before .put-entry in
+    let c5 = c .before .before .before .before .before in let c8 = c5 .before .before .before in
+    let c12 = c8 .before .before .before .before in
+    let a = c12 .args in
+    let l = c8 .loop in
+    let e = c5 .put-entry in
     let u = e .last .1 .1 .1 .1 .0 in
-    let z = subst (PutAre (l .table) u (a .n) (a .w) (l .used) (a .place) (a .s .now) (l .at) (a .idat)) (c .before .t2 .given .1) (e .ensures) in
+    let z = subst (PutAre (l .table) u (a .n) (a .w) (l .used) (a .place) (a .s .now) (l .at) (a .idat))
+    (c .before .t2 .given .1) (e .ensures) in
     omega arith
 
 add-hope : tie.Need-add-hope Inv-loop μ-loop
 add-hope c =
-    let a = c .before .before .before .before .before .before .before .before .before .before .before .before .args in
-    let l = c .before .before .before .before .before .before .before .before .loop in
-    let e = c .before .before .before .before .before .put-entry in
+    let c5 = c .before .before .before .before .before in let c8 = c5 .before .before .before in
+    let c12 = c8 .before .before .before .before in
+    let a = c12 .args in
+    let l = c8 .loop in
+    let e = c5 .put-entry in
     let u = e .last .1 .1 .1 .1 .0 in
-    let z = subst (PutAre (l .table) u (a .n) (a .w) (l .used) (a .place) (a .s .now) (l .at) (a .idat)) (c .before .t2 .given .1) (e .ensures) in
+    let z = subst (PutAre (l .table) u (a .n) (a .w) (l .used) (a .place) (a .s .now) (l .at) (a .idat))
+    (c .before .t2 .given .1) (e .ensures) in
     omega arith
 
 loop-again : tie.Need-loop-again Inv-loop μ-loop
 loop-again c =
-    let p = c .before .before .before .before .before .before .before .before .before .before .before .before .pre in
-    let a = c .before .before .before .before .before .before .before .before .before .before .before .before .args in
-    let l = c .before .before .before .before .before .before .before .before .loop in
-    let e = c .before .before .before .before .before .put-entry in
+    let c5 = c .before .before .before .before .before in let c7 = c5 .before .before in let c8 = c7 .before in
+    let c12 = c8 .before .before .before .before in
+    let p = c12 .pre in
+    let a = c12 .args in
+    let l = c8 .loop in
+    let e = c5 .put-entry in
     let u = e .last .1 .1 .1 .1 .0 in
-    let z = subst (PutAre (l .table) u (a .n) (a .w) (l .used) (a .place) (a .s .now) (l .at) (a .idat)) (c .before .t2 .given .1) (e .ensures) in
-    so-again (a .s .now) (a .from) (a .count) (a .w) (a .place) (a .n) (a .idat) (a .table .now)
-    (l .table) u (l .at) (l .used) (l .i) (l .inv) (c .before .before .before .before .before .before .before .loop-test .taken)
-    (p .2) (p .3) (p .4 .distinct) _ _ _ z
+    let z = subst (PutAre (l .table) u (a .n) (a .w) (l .used) (a .place) (a .s .now) (l .at) (a .idat))
+    (c .before .t2 .given .1) (e .ensures) in
+    so-again (a .s .now) (a .from) (a .count) (a .w) (a .place) (a .n) (a .idat) (a .table .now) (l .table) u (l .at)
+    (l .used) (l .i) (l .inv) (c7 .loop-test .taken) (p .2) (p .3) (p .4 .distinct) _ _ _ z
 
 same-length-2 : tie.Need-same-length-2 Inv-loop μ-loop
 same-length-2 c = c .before .before .loop .inv .kept .same-length
@@ -79,10 +96,11 @@ same-length-2 c = c .before .before .loop .inv .kept .same-length
 returns-2 : tie.Need-returns-2 Inv-loop μ-loop
 unfolding toldLocations
 returns-2 c =
-    let a = c .before .before .before .before .before .before .args in
-    let l = c .before .before .loop in
-    let z = so-left (a .s .now) (a .from) (a .count) (a .w) (a .place) (a .n) (a .idat) (a .table .now)
-    (l .table) (l .at) (l .used) (l .i) (l .inv) (c .before .loop-test .left) (c .if1 .taken) in
+    let c2 = c .before .before in let c6 = c2 .before .before .before .before in
+    let a = c6 .args in
+    let l = c2 .loop in
+    let z = so-left (a .s .now) (a .from) (a .count) (a .w) (a .place) (a .n) (a .idat) (a .table .now) (l .table)
+    (l .at) (l .used) (l .i) (l .inv) (c .before .loop-test .left) (c .if1 .taken) in
     (sym (ap toldLocations (z .0)), z .1)
 
 same-length-3 : tie.Need-same-length-3 Inv-loop μ-loop
@@ -91,10 +109,11 @@ same-length-3 c = c .before .before .loop .inv .kept .same-length
 returns-3 : tie.Need-returns-3 Inv-loop μ-loop
 unfolding toldLocations
 returns-3 c =
-    let a = c .before .before .before .before .before .before .args in
-    let l = c .before .before .loop in
-    let z = so-done (a .s .now) (a .from) (a .count) (a .w) (a .place) (a .n) (a .idat) (a .table .now)
-    (l .table) (l .at) (l .used) (l .i) (l .inv) (c .before .loop-test .left) (c .if1 .left) in
+    let c2 = c .before .before in let c6 = c2 .before .before .before .before in
+    let a = c6 .args in
+    let l = c2 .loop in
+    let z = so-done (a .s .now) (a .from) (a .count) (a .w) (a .place) (a .n) (a .idat) (a .table .now) (l .table)
+    (l .at) (l .used) (l .i) (l .inv) (c .before .loop-test .left) (c .if1 .left) in
     (rw (l .inv .located .count) (sym (ap toldLocations (z .0))), z .1)
 
 pub put-entries-spec : {M : Type 1} → statement M

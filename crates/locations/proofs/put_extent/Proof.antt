@@ -10,7 +10,8 @@ use Rattle.locations.proofs.put_extent.Tie as tie
 returns : tie.Need-returns
 returns c =
     let a = c .before .before .args in
-    four-stored (a .table .now) _ _ (a .offset / 4294967296) (a .offset % 4294967296) (a .size / 4294967296) (a .size % 4294967296) (c .extent .ensures)
+    four-stored (a .table .now) _ _ (a .offset / 4294967296) (a .offset % 4294967296) (a .size / 4294967296)
+    (a .size % 4294967296) (c .extent .ensures)
 
 pub put-extent-spec : {M : Type 1} → statement M
 put-extent-spec =

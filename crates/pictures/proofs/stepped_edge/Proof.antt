@@ -17,13 +17,15 @@ returns c =
 
 returns-2 : tie.Need-returns-2
 returns-2 c =
-    let q = c .before .before .before .before in
+    let c2 = c .before .before in let c4 = c2 .before .before in
+    let q = c4 in
     let a = q .before .before .args in
-    let k = step-is _ _ (sym (q .twice-edge .ensures) ∙ c .before .before .twice .given .1) in
+    let k = step-is _ _ (sym (q .twice-edge .ensures) ∙ c2 .twice .given .1) in
     let w = q .before .before .pre .1 in
-    c .halved-edge .ensures
-    ∙ sym (ap toldEdge (stepped-halved (a .side) (a .c) (signed 4 (a .o)) (a .od) _ (q .before .common-of .ensures .0) _ k w))
+    c .halved-edge .ensures ∙ sym (ap toldEdge (stepped-halved (a .side) (a .c) (signed 4 (a .o)) (a .od) _
+    (q .before .common-of .ensures .0) _ k w))
 
 pub stepped-edge-spec : {M : Type 1} → statement M
 stepped-edge-spec =
-    tie.close (tie.spec (search needs) (λ c κs. search needs) (λ c κs. search needs) (search needs) (search needs) (λ c κs. search needs) returns returns-2)
+    tie.close (tie.spec (search needs) (λ c κs. search needs) (λ c κs. search needs) (search needs) (search needs)
+    (λ c κs. search needs) returns returns-2)

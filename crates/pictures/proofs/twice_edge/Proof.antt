@@ -12,11 +12,15 @@ returns c = let a = c .before .args in sym (ap toldStep (twice-right (a .common)
 
 returns-2 : tie.Need-returns-2
 unfolding toldStep
-returns-2 c = let a = c .before .before .args in sym (ap toldStep (twice-below (a .common) (a .o) (c .before .if1 .left) (c .if2 .taken)))
+returns-2 c =
+    let a = c .before .before .args in
+    sym (ap toldStep (twice-below (a .common) (a .o) (c .before .if1 .left) (c .if2 .taken)))
 
 returns-3 : tie.Need-returns-3
 unfolding toldStep
-returns-3 c = let a = c .before .before .args in sym (ap toldStep (twice-left (a .common) (a .o) (c .before .if1 .left) (c .if2 .left)))
+returns-3 c =
+    let a = c .before .before .args in
+    sym (ap toldStep (twice-left (a .common) (a .o) (c .before .if1 .left) (c .if2 .left)))
 
 pub twice-edge-spec : {M : Type 1} → statement M
 twice-edge-spec =

@@ -17,7 +17,9 @@ returns-2 c = let a = c .before .before .args in sym (ap toldStep (width-part (a
 
 returns-3 : tie.Need-returns-3
 unfolding toldStep
-returns-3 c = let a = c .before .before .before .args in sym (ap toldStep (width-over (a .side) (a .n) (a .d) (c .if3 .taken)))
+returns-3 c =
+    let a = c .before .before .before .args in
+    sym (ap toldStep (width-over (a .side) (a .n) (a .d) (c .if3 .taken)))
 
 returns-4 : tie.Need-returns-4
 unfolding toldStep

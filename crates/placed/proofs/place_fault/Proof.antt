@@ -7,21 +7,48 @@ use Rattle.placed.proofs.place_fault.Statement.{statement}
 use Rattle.placed.proofs.place_fault.Tie as tie
 
 returns : tie.Need-returns
-returns c = λ head pl f v w i h. fault-method (c .before .before .before .args .total) head f (itemAt f (c .before .before .before .args .row .0)) _ (c .before .good-method .ensures head pl f v w h) (not-true _ (c .if1 .taken))
+returns c =
+    let a = c .before .before .before .args in
+    λ head pl f v w i h. fault-method (a .ends .total) head f (itemAt f (a .row .0)) _
+    (c .before .good-method .ensures head pl f v w h) (not-true _ (c .if1 .taken))
 
 returns-2 : tie.Need-returns-2
-returns-2 c = λ head pl f v w i h. fault-outside (c .before .before .before .before .before .before .before .args .total) head f (itemAt f (c .before .before .before .before .before .before .before .args .row .0)) _ (c .before .before .before .before .before .good-method .ensures head pl f v w h) (not-false _ (c .before .before .before .before .if1 .left)) _ (c .before .before .before .lies-within .ensures head pl f v i h) (not-true _ (c .before .before .if2 .taken)) _ (c .before .has-lengths .ensures head pl f v h) (c .if3 .taken)
+returns-2 c =
+    let c2 = c .before .before in let c3 = c2 .before in let c4 = c3 .before in let c5 = c4 .before in
+    let a = c5 .before .before .args in
+    λ head pl f v w i h. fault-outside (a .ends .total) head f (itemAt f (a .row .0)) _
+    (c5 .good-method .ensures head pl f v w h) (not-false _ (c4 .if1 .left)) _
+    (c3 .lies-within .ensures head pl f v i h) (not-true _ (c2 .if2 .taken)) _
+    (c .before .has-lengths .ensures head pl f v h) (c .if3 .taken)
 
 returns-3 : tie.Need-returns-3
-returns-3 c = λ head pl f v w i h. fault-length (c .before .before .before .before .before .before .before .args .total) head f (itemAt f (c .before .before .before .before .before .before .before .args .row .0)) _ (c .before .before .before .before .before .good-method .ensures head pl f v w h) (not-false _ (c .before .before .before .before .if1 .left)) _ (c .before .before .before .lies-within .ensures head pl f v i h) (not-true _ (c .before .before .if2 .taken)) _ (c .before .has-lengths .ensures head pl f v h) (c .if3 .left)
+returns-3 c =
+    let c2 = c .before .before in let c3 = c2 .before in let c4 = c3 .before in let c5 = c4 .before in
+    let a = c5 .before .before .args in
+    λ head pl f v w i h. fault-length (a .ends .total) head f (itemAt f (a .row .0)) _
+    (c5 .good-method .ensures head pl f v w h) (not-false _ (c4 .if1 .left)) _
+    (c3 .lies-within .ensures head pl f v i h) (not-true _ (c2 .if2 .taken)) _
+    (c .before .has-lengths .ensures head pl f v h) (c .if3 .left)
 
 returns-4 : tie.Need-returns-4
-returns-4 c = λ head pl f v w i h. fault-empty (c .before .before .before .before .before .before .before .args .total) head f (itemAt f (c .before .before .before .before .before .before .before .args .row .0)) _ (c .before .before .before .before .before .good-method .ensures head pl f v w h) (not-false _ (c .before .before .before .before .if1 .left)) _ (c .before .before .before .lies-within .ensures head pl f v i h) (not-false _ (c .before .before .if2 .left)) _ (c .before .has-bytes .ensures head pl f v h) (not-true _ (c .if4 .taken))
+returns-4 c =
+    let c2 = c .before .before in let c3 = c2 .before in let c4 = c3 .before in let c5 = c4 .before in
+    let a = c5 .before .before .args in
+    λ head pl f v w i h. fault-empty (a .ends .total) head f (itemAt f (a .row .0)) _
+    (c5 .good-method .ensures head pl f v w h) (not-false _ (c4 .if1 .left)) _
+    (c3 .lies-within .ensures head pl f v i h) (not-false _ (c2 .if2 .left)) _
+    (c .before .has-bytes .ensures head pl f v h) (not-true _ (c .if4 .taken))
 
 returns-5 : tie.Need-returns-5
-returns-5 c = λ head pl f v w i h. fault-none (c .before .before .before .before .before .before .before .args .total) head f (itemAt f (c .before .before .before .before .before .before .before .args .row .0)) _ (c .before .before .before .before .before .good-method .ensures head pl f v w h) (not-false _ (c .before .before .before .before .if1 .left)) _ (c .before .before .before .lies-within .ensures head pl f v i h) (not-false _ (c .before .before .if2 .left)) _ (c .before .has-bytes .ensures head pl f v h) (not-false _ (c .if4 .left))
+returns-5 c =
+    let c2 = c .before .before in let c3 = c2 .before in let c4 = c3 .before in let c5 = c4 .before in
+    let a = c5 .before .before .args in
+    λ head pl f v w i h. fault-none (a .ends .total) head f (itemAt f (a .row .0)) _
+    (c5 .good-method .ensures head pl f v w h) (not-false _ (c4 .if1 .left)) _
+    (c3 .lies-within .ensures head pl f v i h) (not-false _ (c2 .if2 .left)) _
+    (c .before .has-bytes .ensures head pl f v h) (not-false _ (c .if4 .left))
 
 pub place-fault-spec : {M : Type 1} → statement M
 place-fault-spec =
-    tie.close (tie.spec (search needs) returns (search needs) (search needs) returns-2 returns-3 (search needs) returns-4
-    returns-5)
+    tie.close (tie.spec (search needs) returns (search needs) (search needs) returns-2 returns-3 (search needs)
+    returns-4 returns-5)

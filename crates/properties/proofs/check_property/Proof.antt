@@ -19,18 +19,21 @@ returns-2 c =
 returns-3 : tie.Need-returns-3
 returns-3 c =
     let a = c .before .before .before .args in
-    c .has-length2 .ensures ∙ sym (ap toldChecked (held-irot (a .kind) (a .place) (a .s .now) (c .before .match .keys3)))
+    c .has-length2 .ensures ∙ sym (ap toldChecked (held-irot (a .kind) (a .place) (a .s .now)
+    (c .before .match .keys3)))
 
 returns-4 : tie.Need-returns-4
 returns-4 c =
     let a = c .before .before .before .args in
-    c .has-length3 .ensures ∙ sym (ap toldChecked (held-imir (a .kind) (a .place) (a .s .now) (c .before .match .keys4)))
+    c .has-length3 .ensures ∙ sym (ap toldChecked (held-imir (a .kind) (a .place) (a .s .now)
+    (c .before .match .keys4)))
 
 returns-5 : tie.Need-returns-5
 unfolding toldChecked
 returns-5 c =
     let a = c .before .before .args in
-    sym (ap toldChecked (held-other (a .kind) (a .place) (a .s .now) (c .match .rest .0 .0 .0 .1) (c .match .rest .0 .0 .1) (c .match .rest .0 .1) (c .match .rest .1)))
+    sym (ap toldChecked (held-other (a .kind) (a .place) (a .s .now) (c .match .rest .0 .0 .0 .1)
+    (c .match .rest .0 .0 .1) (c .match .rest .0 .1) (c .match .rest .1)))
 
 pub check-property-spec : {M : Type 1} → statement M
 check-property-spec =

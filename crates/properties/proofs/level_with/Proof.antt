@@ -16,7 +16,8 @@ returns-2 c =
 returns-3 : tie.Need-returns-3
 returns-3 c =
     let a = c .before .before .args in
-    λ bs b is k h z. level-another (a .l) (a .kind) (a .body) (a .end) bs b is k h z (c .before .if1 .left) (c .if2 .left)
+    λ bs b is k h z. level-another (a .l) (a .kind) (a .body) (a .end) bs b is k h z (c .before .if1 .left)
+    (c .if2 .left)
 
 pub level-with-spec : {M : Type 1} → statement M
 level-with-spec = tie.close (tie.spec returns returns-2 returns-3)

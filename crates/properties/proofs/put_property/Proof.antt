@@ -1,5 +1,5 @@
 -- `properties::put_property` meets its contract. Assumes nothing.
-use Rattle.properties.proofs.KeepLaws.{four-stores}
+use Rattle.properties.proofs.PropertyLaws.{four-stores}
 use lib.ListN.{length-set}
 use native.Mathlib.Omega.{arith}
 use borrow.Author.Needs.{needs}

@@ -10,8 +10,10 @@ returns c = λ s st. no-idat-at s (c .before .before .before .args .at) _ st (c 
 
 add-result : tie.Need-add-result
 add-result c =
-    let p = c .before .before .before .pre in
-    let h = idat-within (p .0) (c .before .before .before .args .at) _ (p .1) (p .2) in omega arith
+    let c3 = c .before .before .before in
+    let p = c3 .pre in
+    let h = idat-within (p .0) (c3 .args .at) _ (p .1) (p .2) in
+    omega arith
 
 returns-2 : tie.Need-returns-2
 returns-2 c = λ s st. an-idat-at s (c .before .before .before .args .at) _ st (c .if1 .left)

@@ -10,41 +10,87 @@ use Rattle.reading.proofs.read_iloc.Statement.{statement}
 use Rattle.reading.proofs.read_iloc.Tie as tie
 
 idat-at-requires : tie.Need-idat-at-requires
-idat-at-requires c κs = (c .before .before .before .before .before .args .s .now, c .before .before .before .before .before .pre .0, c .before .before .before .before .before .pre .1)
+idat-at-requires c κs =
+    let c5 = c .before .before .before .before .before in
+    (c5 .args .s .now, c5 .pre .0, c5 .pre .1)
 
 sub-read-locations : tie.Need-sub-read-locations
-sub-read-locations c = let h = iloc-within (c .before .before .before .before .before .before .args .s .now) (c .before .before .before .before .before .before .args .at) _ (c .before .before .before .before .before .before .pre .0) (c .before .before .before .before .before .before .pre .1) in omega arith
+sub-read-locations c =
+    let c6 = c .before .before .before .before .before .before in
+    let h = iloc-within (c6 .args .s .now) (c6 .args .at) _ (c6 .pre .0) (c6 .pre .1) in
+    omega arith
 
 part-read-locations-start : tie.Need-part-read-locations-start
-part-read-locations-start c = let h = iloc-within (c .before .before .before .before .before .before .args .s .now) (c .before .before .before .before .before .before .args .at) _ (c .before .before .before .before .before .before .pre .0) (c .before .before .before .before .before .before .pre .1) in omega arith
+part-read-locations-start c =
+    let c6 = c .before .before .before .before .before .before in
+    let h = iloc-within (c6 .args .s .now) (c6 .args .at) _ (c6 .pre .0) (c6 .pre .1) in
+    omega arith
 
 part-read-locations-end : tie.Need-part-read-locations-end
-part-read-locations-end c = let h = iloc-within (c .before .before .before .before .before .before .args .s .now) (c .before .before .before .before .before .before .args .at) _ (c .before .before .before .before .before .before .pre .0) (c .before .before .before .before .before .before .pre .1) in omega arith
+part-read-locations-end c =
+    let c6 = c .before .before .before .before .before .before in
+    let h = iloc-within (c6 .args .s .now) (c6 .args .at) _ (c6 .pre .0) (c6 .pre .1) in
+    omega arith
 
 add-read-locations : tie.Need-add-read-locations
-add-read-locations c = let h = iloc-within (c .before .before .before .before .before .before .before .args .s .now) (c .before .before .before .before .before .before .before .args .at) _ (c .before .before .before .before .before .before .before .pre .0) (c .before .before .before .before .before .before .before .pre .1) in omega arith
+add-read-locations c =
+    let c7 = c .before .before .before .before .before .before .before in
+    let h = iloc-within (c7 .args .s .now) (c7 .args .at) _ (c7 .pre .0) (c7 .pre .1) in
+    omega arith
 
 read-locations-requires : tie.Need-read-locations-requires
 read-locations-requires c κs =
-    let a = c .before .before .before .before .before .before .before .before .args in
-    let p = c .before .before .before .before .before .before .before .before .pre in
-    let k = p .4 .2 .ready in (p .2, omega (arith, k .count, k .bounded .few-items), unplaced (a .s .now) (a .at) _ (p .0) (a .n) (p .4 .0) (p .4 .1) _ (p .4 .2))
+    let c8 = c .before .before .before .before .before .before .before .before in
+    let a = c8 .args in
+    let p = c8 .pre in
+    let k = p .4 .2 .ready in (
+      p .2,
+      omega (arith, k .count, k .bounded .few-items),
+      unplaced (a .s .now) (a .at) _ (p .0) (a .n) (p .4 .0)
+          (p .4 .1) _ (p .4 .2),
+    )
 
 read-iprp-requires : tie.Need-read-iprp-requires
 read-iprp-requires c κs =
-    let a = c .before .before .before .before .before .before .before .before .before .before .before .before .before .before .before .before .args in
-    let p = c .before .before .before .before .before .before .before .before .before .before .before .before .before .before .before .before .pre in
-    let o = iloc-on (a .s .now) (a .at) _ (p .0) (a .n) (p .4 .0) (p .4 .1) _ (p .4 .2) _ refl _ (sym (c .before .before .before .before .before .before .before .read-locations .ensures .0) ∙ c .before .before .before .t2 .given .1) _ (c .before .before .before .before .before .before .before .before .before .before .idat-at .ensures _ (p .0)) _ (c .before .before .before .before .before .before .before .read-locations .ensures .1) 0 in (p .0, p .1, omega (arith, c .before .before .before .before .before .before .before .read-locations .ensures .1 .kept .same-length, p .2), p .3, ((p .4 .0), o .0, (p .4 .1), o .1, o .2))
+    let c3 = c .before .before .before in let c7 = c3 .before .before .before .before in
+    let c10 = c7 .before .before .before in let c16 = c10 .before .before .before .before .before .before in
+    let a = c16 .args in
+    let p = c16 .pre in
+    let o = iloc-on (a .s .now) (a .at) _ (p .0) (a .n) (p .4 .0) (p .4 .1) _ (p .4 .2) _ refl _
+    (sym (c7 .read-locations .ensures .0) ∙ c3 .t2 .given .1) _ (c10 .idat-at .ensures _ (p .0)) _
+    (c7 .read-locations .ensures .1) 0 in (
+      p .0,
+      p .1,
+      omega (arith, c7 .read-locations .ensures .1 .kept .same-length, p .2),
+      p .3,
+      ((p .4 .0), o .0, (p .4 .1), o .1, o .2),
+    )
 
 returns : tie.Need-returns
 returns c =
-    let a = c .before .before .before .before .before .before .before .before .before .before .before .before .before .before .args in
-    ((λ is x b. iloc-gone (a .s .now) (a .at) _ (c .before .before .before .before .before .before .before .before .before .before .before .before .before .before .pre .0) (a .n) is x _ b _ refl (a .total) (a .primary .0) _ (sym (c .before .before .before .before .before .read-locations .ensures .0) ∙ c .before .t .given .1) _), (c .before .before .before .before .before .read-locations .ensures .1 .kept, λ i e q. no-reading _ i e q))
+    let c5 = c .before .before .before .before .before in
+    let c14 = c5 .before .before .before .before .before .before .before .before .before in
+    let a = c14 .args in (
+      (λ is x b. iloc-gone (a .s .now) (a .at) _ (c14 .pre .0) (a .n) is x _ b _ refl (a .total) (a .primary .0) _
+          (sym (c5 .read-locations .ensures .0) ∙ c .before .t .given .1) _),
+      (c5 .read-locations .ensures .1 .kept, λ i e q. no-reading _ i e q),
+    )
 
 returns-2 : tie.Need-returns-2
 returns-2 c =
-    let a = c .before .before .before .before .before .before .before .before .before .before .before .before .before .before .before .before .before .before .before .before .before .args in
-    ((λ is x b. let o = iloc-on (a .s .now) (a .at) _ (c .before .before .before .before .before .before .before .before .before .before .before .before .before .before .before .before .before .before .before .before .before .pre .0) (a .n) is x _ b _ refl _ (sym (c .before .before .before .before .before .before .before .before .before .before .before .before .read-locations .ensures .0) ∙ c .before .before .before .before .before .before .before .before .t2 .given .1) _ (c .before .before .before .before .before .before .before .before .before .before .before .before .before .before .before .idat-at .ensures _ (c .before .before .before .before .before .before .before .before .before .before .before .before .before .before .before .before .before .before .before .before .before .pre .0)) _ (c .before .before .before .before .before .before .before .before .before .before .before .before .read-locations .ensures .1) (a .primary .0) in after-same (a .s .now) (a .at) (a .total) _ _ _ x _ (o .3) (c .before .before .before .before .read-iprp .ensures .0 is (o .0) x (o .1) (o .2))), (kept-on _ _ _ (c .before .before .before .before .before .before .before .before .before .before .before .before .read-locations .ensures .1 .kept) (c .before .before .before .before .read-iprp .ensures .1 .0), c .before .before .before .before .read-iprp .ensures .1 .1))
+    let c4 = c .before .before .before .before in let c8 = c4 .before .before .before .before in
+    let c12 = c8 .before .before .before .before in let c15 = c12 .before .before .before in
+    let c21 = c15 .before .before .before .before .before .before in
+    let a = c21 .args in (
+      (λ is x b. let o = iloc-on (a .s .now) (a .at) _ (c21 .pre .0) (a .n) is x _ b _ refl _
+          (sym (c12 .read-locations .ensures .0) ∙ c8 .t2 .given .1) _ (c15 .idat-at .ensures _ (c21 .pre .0)) _
+          (c12 .read-locations .ensures .1) (a .primary .0) in after-same (a .s .now) (a .at) (a .total) _ _ _ x _ (o .3)
+          (c4 .read-iprp .ensures .0 is (o .0) x (o .1) (o .2))),
+      (
+        kept-on _ _ _ (c12 .read-locations .ensures .1 .kept) (c4 .read-iprp .ensures .1 .0),
+        c4 .read-iprp .ensures .1 .1,
+      ),
+    )
 
 pub read-iloc-spec : {M : Type 1} → statement M
 read-iloc-spec =

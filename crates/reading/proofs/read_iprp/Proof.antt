@@ -11,44 +11,83 @@ use Rattle.reading.proofs.read_iprp.Statement.{statement}
 use Rattle.reading.proofs.read_iprp.Tie as tie
 
 add-place : tie.Need-add-place
-add-place c = let h = iprp-within (c .before .before .before .before .before .args .s .now) (c .before .before .before .before .before .args .at) _ (c .before .before .before .before .before .pre .0) (c .before .before .before .before .before .pre .1) in omega arith
+add-place c =
+    let c5 = c .before .before .before .before .before in
+    let h = iprp-within (c5 .args .s .now) (c5 .args .at) _ (c5 .pre .0) (c5 .pre .1) in
+    omega arith
 
 add-base : tie.Need-add-base
-add-base c = let h = iprp-within (c .before .before .before .before .before .args .s .now) (c .before .before .before .before .before .args .at) _ (c .before .before .before .before .before .pre .0) (c .before .before .before .before .before .pre .1) in omega arith
+add-base c =
+    let c5 = c .before .before .before .before .before in
+    let h = iprp-within (c5 .args .s .now) (c5 .args .at) _ (c5 .pre .0) (c5 .pre .1) in
+    omega arith
 
 sub-read-shown : tie.Need-sub-read-shown
-sub-read-shown c = let h = iprp-within (c .before .before .before .before .before .args .s .now) (c .before .before .before .before .before .args .at) _ (c .before .before .before .before .before .pre .0) (c .before .before .before .before .before .pre .1) in omega arith
+sub-read-shown c =
+    let c5 = c .before .before .before .before .before in
+    let h = iprp-within (c5 .args .s .now) (c5 .args .at) _ (c5 .pre .0) (c5 .pre .1) in
+    omega arith
 
 part-read-shown-start : tie.Need-part-read-shown-start
-part-read-shown-start c = let h = iprp-within (c .before .before .before .before .before .args .s .now) (c .before .before .before .before .before .args .at) _ (c .before .before .before .before .before .pre .0) (c .before .before .before .before .before .pre .1) in omega arith
+part-read-shown-start c =
+    let c5 = c .before .before .before .before .before in
+    let h = iprp-within (c5 .args .s .now) (c5 .args .at) _ (c5 .pre .0) (c5 .pre .1) in
+    omega arith
 
 part-read-shown-end : tie.Need-part-read-shown-end
-part-read-shown-end c = let h = iprp-within (c .before .before .before .before .before .args .s .now) (c .before .before .before .before .before .args .at) _ (c .before .before .before .before .before .pre .0) (c .before .before .before .before .before .pre .1) in omega arith
+part-read-shown-end c =
+    let c5 = c .before .before .before .before .before in
+    let h = iprp-within (c5 .args .s .now) (c5 .args .at) _ (c5 .pre .0) (c5 .pre .1) in
+    omega arith
 
 read-shown-requires : tie.Need-read-shown-requires
 read-shown-requires c κs =
-    let a = c .before .before .before .before .before .before .before .args in
-    let p = c .before .before .before .before .before .before .before .pre in
-    let h = iprp-within (a .s .now) (a .at) _ (p .0) (p .1) in let k = p .4 .3 .ready in (p .2, omega (arith, k .count, k .bounded .few-items), part-room (a .s .now) (a .at) _ (p .1) h)
+    let c7 = c .before .before .before .before .before .before .before in
+    let a = c7 .args in
+    let p = c7 .pre in
+    let h = iprp-within (a .s .now) (a .at) _ (p .0) (p .1) in
+    let k = p .4 .3 .ready in
+    (p .2, omega (arith, k .count, k .bounded .few-items), part-room (a .s .now) (a .at) _ (p .1) h)
 
 read-last-requires : tie.Need-read-last-requires
 read-last-requires c κs =
-    let a = c .before .before .before .before .before .before .before .before .before .before .before .before .before .before .before .args in
-    let p = c .before .before .before .before .before .before .before .before .before .before .before .before .before .before .before .pre in
-    let o = iprp-on (a .s .now) (a .at) _ (p .0) (a .n) (p .4 .0) (p .4 .1) (p .4 .2) _ (p .4 .3) _ refl _ _ (sym (c .before .before .before .before .before .before .before .read-shown .ensures .0) ∙ c .before .before .before .t2 .given .1) _ (c .before .before .before .before .before .before .before .read-shown .ensures .1) (a .extents) (p .4 .4) 0 in (p .0, p .1, omega (arith, c .before .before .before .before .before .before .before .read-shown .ensures .1 .kept .same-length, p .2), p .3, (_, (p .4 .2), o .1))
+    let c3 = c .before .before .before in let c7 = c3 .before .before .before .before in
+    let c15 = c7 .before .before .before .before .before .before .before .before in
+    let a = c15 .args in
+    let p = c15 .pre in
+    let o = iprp-on (a .s .now) (a .at) _ (p .0) (a .n) (p .4 .0) (p .4 .1) (p .4 .2) _ (p .4 .3) _ refl _ _
+    (sym (c7 .read-shown .ensures .0) ∙ c3 .t2 .given .1) _ (c7 .read-shown .ensures .1) (a .extents) (p .4 .4) 0 in
+    (p .0, p .1, omega (arith, c7 .read-shown .ensures .1 .kept .same-length, p .2), p .3, (_, (p .4 .2), o .1))
 
 returns : tie.Need-returns
 returns c =
-    let a = c .before .before .before .before .before .before .before .before .before .before .before .before .before .args in
-    ((λ is ls x b e. iprp-gone (a .s .now) (a .at) _ (c .before .before .before .before .before .before .before .before .before .before .before .before .before .pre .0) (a .n) is ls x _ b _ refl (a .total) (a .primary .0) _ (sym (c .before .before .before .before .before .read-shown .ensures .0) ∙ c .before .t .given .1) _), (c .before .before .before .before .before .read-shown .ensures .1 .kept, λ i e q. no-reading _ i e q))
+    let c5 = c .before .before .before .before .before in
+    let c13 = c5 .before .before .before .before .before .before .before .before in
+    let a = c13 .args in (
+      (λ is ls x b e. iprp-gone (a .s .now) (a .at) _ (c13 .pre .0) (a .n) is ls x _ b _ refl (a .total) (a .primary .0)
+          _ (sym (c5 .read-shown .ensures .0) ∙ c .before .t .given .1) _),
+      (c5 .read-shown .ensures .1 .kept, λ i e q. no-reading _ i e q),
+    )
 
 returns-2 : tie.Need-returns-2
 returns-2 c =
-    let a = c .before .before .before .before .before .before .before .before .before .before .before .before .before .before .before .before .before .before .before .before .args in
-    ((λ is ls x b e. let o = iprp-on (a .s .now) (a .at) _ (c .before .before .before .before .before .before .before .before .before .before .before .before .before .before .before .before .before .before .before .before .pre .0) (a .n) is ls x _ b _ refl _ _ (sym (c .before .before .before .before .before .before .before .before .before .before .before .before .read-shown .ensures .0) ∙ c .before .before .before .before .before .before .before .before .t2 .given .1) _ (c .before .before .before .before .before .before .before .before .before .before .before .before .read-shown .ensures .1) (a .extents) e (a .primary .0) in after-same (a .s .now) (a .at) (a .total) _ _ _ x _ (o .2) (c .before .before .before .before .read-last .ensures .0 _ x (o .1))), (kept-on _ _ _ (c .before .before .before .before .before .before .before .before .before .before .before .before .read-shown .ensures .1 .kept) (c .before .before .before .before .read-last .ensures .1 .0), c .before .before .before .before .read-last .ensures .1 .1))
+    let c4 = c .before .before .before .before in let c8 = c4 .before .before .before .before in
+    let c12 = c8 .before .before .before .before in
+    let c20 = c12 .before .before .before .before .before .before .before .before in
+    let a = c20 .args in (
+      (λ is ls x b e. let o = iprp-on (a .s .now) (a .at) _ (c20 .pre .0) (a .n) is ls x _ b _ refl _ _
+          (sym (c12 .read-shown .ensures .0) ∙ c8 .t2 .given .1) _ (c12 .read-shown .ensures .1) (a .extents) e
+          (a .primary .0) in after-same (a .s .now) (a .at) (a .total) _ _ _ x _ (o .2)
+          (c4 .read-last .ensures .0 _ x (o .1))),
+      (
+        kept-on _ _ _ (c12 .read-shown .ensures .1 .kept)
+            (c4 .read-last .ensures .1 .0),
+        c4 .read-last .ensures .1 .1,
+      ),
+    )
 
 pub read-iprp-spec : {M : Type 1} → statement M
 read-iprp-spec =
     tie.close (tie.spec (search needs) add-place add-base sub-read-shown part-read-shown-start part-read-shown-end
-    read-shown-requires (search needs) (search needs) read-last-requires (search needs) returns (search needs) (search needs)
-    returns-2)
+    read-shown-requires (search needs) (search needs) read-last-requires (search needs) returns (search needs)
+    (search needs) returns-2)

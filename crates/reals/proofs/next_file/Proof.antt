@@ -9,4 +9,5 @@ pub next-file-spec : {M : Type 1} → statement M
 next-file-spec =
     tie.close (tie.spec (search needs) (search needs) (search needs) (search needs) (search needs)
     (λ c. rw length-take (omega arith)) (search needs) (search needs) (search needs) (search needs) (search needs)
-    (search needs) (search needs) (λ c. rw length-take (omega arith)) (search needs) (search needs) (λ c. search needs))
+    (search needs) (search needs) (λ c. rw length-take (omega arith)) (search needs) (search needs)
+    (λ c. search needs))

@@ -10,7 +10,8 @@ use Rattle.records.proofs.is_in_row.Tie as tie
 
 returns : tie.Need-returns
 returns c =
-    let a = c .before .before .before .before .args in
+    let c4 = c .before .before .before .before in
+    let a = c4 .args in
     λ q. (omega arith, ap (λ (i : ℕ). getD (a .table .now) i 0) (sym (c .before .item .ensures)) ∙ eqb-true _ _ q)
 
 returns-2 : tie.Need-returns-2

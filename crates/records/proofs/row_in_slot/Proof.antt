@@ -1,4 +1,5 @@
--- `records::row_in_slot` meets its contract: whatever slots say is looked at, and all rows are searched where that is another's. The loop's invariant: k is a word. The measure falls with the rows. Assumes nothing.
+-- `records::row_in_slot` meets its contract: whatever slots say is looked at, and all rows are searched where that is
+-- another's. The loop's invariant: k is a word. The measure falls with the rows. Assumes nothing.
 use Prim.Native.Nat.{_<_}
 use native.Mathlib.Omega.{arith}
 use borrow.Author.Needs.{needs}
@@ -19,5 +20,6 @@ returns-2 c = c .row-searched .ensures
 
 pub row-in-slot-spec : {M : Type 1} → statement M
 row-in-slot-spec =
-    tie.close (tie.spec Inv-loop μ-loop (search needs) (search needs) (search needs) (search needs) (search needs) (search needs) returns
-    (search needs) (search needs) (search needs) (λ c. omega arith) (search needs) (λ c. omega arith) (λ c. omega arith) (search needs) returns-2)
+    tie.close (tie.spec Inv-loop μ-loop (search needs) (search needs) (search needs) (search needs) (search needs)
+    (search needs) returns (search needs) (search needs) (search needs) (λ c. omega arith) (search needs)
+    (λ c. omega arith) (λ c. omega arith) (search needs) returns-2)

@@ -17,19 +17,21 @@ abbrev μ-loop : tie.MeasureT-loop
 
 returns : tie.Need-returns Inv-loop μ-loop
 returns c =
-    let a = c .before .before .before .before .before .before .args in
-    (omega arith, ap (λ (i : ℕ). getD (a .table .now) i 0) (sym (c .before .before .item .ensures)) ∙ c .if1 .taken)
+    let c2 = c .before .before in let c6 = c2 .before .before .before .before in
+    let a = c6 .args in
+    (omega arith, ap (λ (i : ℕ). getD (a .table .now) i 0) (sym (c2 .item .ensures)) ∙ c .if1 .taken)
 
 loop-again : tie.Need-loop-again Inv-loop μ-loop
 loop-again c =
-    let a = c .before .before .before .before .before .before .args in
-    below-more (λ (j : ℕ). idAt (a .table .now) j ≡ a .id .0 → ⊥) _ (c .before .before .before .before .loop .inv)
-    (λ q. c .if1 .left (ap (λ (i : ℕ). getD (a .table .now) i 0) (c .before .before .item .ensures) ∙ q))
+    let c2 = c .before .before in let c4 = c2 .before .before in let c6 = c4 .before .before in
+    let a = c6 .args in
+    below-more (λ (j : ℕ). idAt (a .table .now) j ≡ a .id .0 → ⊥) _ (c4 .loop .inv)
+    (λ q. c .if1 .left (ap (λ (i : ℕ). getD (a .table .now) i 0) (c2 .item .ensures) ∙ q))
 
 returns-2 : tie.Need-returns-2 Inv-loop μ-loop
 returns-2 c = λ k l q. c .before .loop .inv k (omega arith) q
 
 pub row-searched-spec : {M : Type 1} → statement M
 row-searched-spec =
-    tie.close (tie.spec Inv-loop μ-loop (λ c. λ j l. absurd (omega arith)) (search needs) (search needs) (search needs) returns
-    (search needs) (search needs) loop-again returns-2)
+    tie.close (tie.spec Inv-loop μ-loop (λ c. λ j l. absurd (omega arith)) (search needs) (search needs) (search needs)
+    returns (search needs) (search needs) loop-again returns-2)

@@ -9,7 +9,9 @@ use Rattle.references.proofs.is_second.Statement.{statement}
 use Rattle.references.proofs.is_second.Tie as tie
 
 returns : tie.Need-returns
-returns c = rw (c .before .before .if1 .taken) (ap (λ (i : ℕ). not (eqb (getD (c .before .before .before .before .args .table .now) (i + 6) 0) 0)) (c .before .item .ensures))
+returns c =
+    let c2 = c .before .before in let c4 = c2 .before .before in
+    rw (c2 .if1 .taken) (ap (λ (i : ℕ). not (eqb (getD (c4 .args .table .now) (i + 6) 0) 0)) (c .before .item .ensures))
 
 pub is-second-spec : {M : Type 1} → statement M
 is-second-spec =

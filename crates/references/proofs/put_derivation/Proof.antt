@@ -11,28 +11,67 @@ use Rattle.references.proofs.put_derivation.Tie as tie
 
 returns : tie.Need-returns
 returns c =
-    let a = c .before .before .before .before .before .args in
-    let p = c .before .before .before .before .before .pre in
-    (kept-same _, (λ before q fresh. dimg-none (a .table .now) (a .n) (a .w) (a .place) (a .used) (a .s .now) true before q (omega (arith, p .1 .0)) _ (p .1 .1) (p .1 .2) fresh (p .1 .0) _ (p .1 .3) refl (c .if1 .taken) _, λ m e. no-targets _ m e))
+    let c5 = c .before .before .before .before .before in
+    let a = c5 .args in
+    let p = c5 .pre in (
+      kept-same _,
+      (
+        λ before q fresh. dimg-none (a .table .now) (a .n) (a .w) (a .place) (a .used) (a .s .now) true
+            before q (omega (arith, p .1 .0)) _ (p .1 .1) (p .1 .2) fresh (p .1 .0) _ (p .1 .3) refl (c .if1 .taken) _,
+        λ m e. no-targets _ m e,
+      ),
+    )
 
 returns-2 : tie.Need-returns-2
 returns-2 c =
-    let a = c .before .before .before .before .before .before .args in
-    let p = c .before .before .before .before .before .before .pre in
-    (kept-same _, (λ before q fresh. dimg-over (a .table .now) (a .n) (a .w) (a .place) (a .used) (a .s .now) true before q (omega (arith, p .1 .0)) _ (p .1 .1) (p .1 .2) fresh (p .1 .0) _ (p .1 .3) refl (c .before .if1 .left) (c .if2 .taken) _, λ m e. no-targets _ m e))
+    let c6 = c .before .before .before .before .before .before in
+    let a = c6 .args in
+    let p = c6 .pre in (
+      kept-same _,
+      (
+        λ before q fresh. dimg-over (a .table .now) (a .n) (a .w) (a .place) (a .used) (a .s .now) true
+            before q (omega (arith, p .1 .0)) _ (p .1 .1) (p .1 .2) fresh (p .1 .0) _ (p .1 .3) refl (c .before .if1 .left)
+            (c .if2 .taken) _,
+        λ m e. no-targets _ m e,
+      ),
+    )
 
 returns-3 : tie.Need-returns-3
 returns-3 c =
-    let a = c .before .before .before .before .before .before .before .before .before .before .before .before .before .before .before .before .args in
-    let p = c .before .before .before .before .before .before .before .before .before .before .before .before .before .before .before .before .pre in
-    (c .before .before .before .before .before .before .before .put-targets .ensures .1 .0 .kept, (λ before q fresh. dimg-refused (a .table .now) (a .n) (a .w) (a .place) (a .used) (a .s .now) true before q (omega (arith, p .1 .0)) _ (p .1 .1) (p .1 .2) fresh (p .1 .0) _ (p .1 .3) refl (c .before .before .before .before .before .before .before .before .before .before .before .if1 .left) (c .before .before .before .before .before .before .before .before .before .before .if2 .left) _ (sym (c .before .before .before .before .before .before .before .put-targets .ensures .0) ∙ c .before .t .given .1) _, λ m e. no-targets _ m e))
+    let c7 = c .before .before .before .before .before .before .before in let c10 = c7 .before .before .before in
+    let c11 = c10 .before in let c16 = c11 .before .before .before .before .before in
+    let a = c16 .args in
+    let p = c16 .pre in (
+      c7 .put-targets .ensures .1 .0 .kept,
+      (
+        λ before q fresh. dimg-refused (a .table .now) (a .n) (a .w) (a .place)
+            (a .used) (a .s .now) true before q (omega (arith, p .1 .0)) _ (p .1 .1) (p .1 .2) fresh (p .1 .0) _ (p .1 .3)
+            refl (c11 .if1 .left) (c10 .if2 .left) _ (sym (c7 .put-targets .ensures .0) ∙ c .before .t .given .1) _,
+        λ m e. no-targets _ m e,
+      ),
+    )
 
 returns-4 : tie.Need-returns-4
 returns-4 c =
-    let a = c .before .before .before .before .before .before .before .before .before .before .before .before .before .before .before .before .before .before .before .args in
-    let p = c .before .before .before .before .before .before .before .before .before .before .before .before .before .before .before .before .before .before .before .pre in
-    let put = c .before .before .before .before .before .before .before .before .before .before .put-targets in
-    (kept-span _ _ _ (a .row .0) (a .used) (a .k) (omega (arith, p .1 .1, p .0 .2)) (put .ensures .1 .0 .kept) (c .before .before .put-span .ensures), (λ before q fresh. dimg-done (a .table .now) (a .n) (a .w) (a .place) (a .used) (a .s .now) true before q (omega (arith, p .1 .0)) _ (p .1 .1) (p .1 .2) fresh (p .1 .0) _ (p .1 .3) refl (c .before .before .before .before .before .before .before .before .before .before .before .before .before .before .if1 .left) (c .before .before .before .before .before .before .before .before .before .before .before .before .before .if2 .left) (sym (put .ensures .0) ∙ c .before .before .before .before .enum-told .given .1) _ _ (put .ensures .1 .0) (c .before .before .put-span .ensures), rowed-stored (a .n) (a .used) (a .k) (a .row .0) (p .0 .2) (omega (arith, p .1 .1, p .0 .2)) (a .table .now) (put .last .1 .1 .1 .1 .1 .0) _ (a .rows .now) (put .last .1 .1 .1 .1 .1 .1 .0) (c .before .before .put-span .ensures) (put .ensures .1 .1 .1 refl (c .before .before .before .before .enum-told .given .1))))
+    let c2 = c .before .before in let c4 = c2 .before .before in
+    let c10 = c4 .before .before .before .before .before .before in let c13 = c10 .before .before .before in
+    let c14 = c13 .before in let c19 = c14 .before .before .before .before .before in
+    let a = c19 .args in
+    let p = c19 .pre in
+    let put = c10 .put-targets in (
+      kept-span _ _ _ (a .row .0) (a .used) (a .k) (omega (arith, p .1 .1, p .0 .2)) (put .ensures .1 .0 .kept)
+          (c2 .put-span .ensures),
+      (
+        λ before q fresh. dimg-done (a .table .now) (a .n) (a .w) (a .place) (a .used)
+            (a .s .now) true before q (omega (arith, p .1 .0)) _ (p .1 .1) (p .1 .2) fresh (p .1 .0) _ (p .1 .3) refl
+            (c14 .if1 .left) (c13 .if2 .left) (sym (put .ensures .0) ∙ c4 .enum-told .given .1) _ _ (put .ensures .1 .0)
+            (c2 .put-span .ensures),
+        rowed-stored (a .n) (a .used) (a .k) (a .row .0) (p .0 .2)
+            (omega (arith, p .1 .1, p .0 .2)) (a .table .now) (put .last .1 .1 .1 .1 .1 .0) _ (a .rows .now)
+            (put .last .1 .1 .1 .1 .1 .1 .0) (c2 .put-span .ensures)
+            (put .ensures .1 .1 .1 refl (c4 .enum-told .given .1)),
+      ),
+    )
 
 pub put-derivation-spec : {M : Type 1} → statement M
 put-derivation-spec =

@@ -12,33 +12,91 @@ use Rattle.references.proofs.put_reference.Tie as tie
 
 returns : tie.Need-returns
 returns c =
-    let a = c .before .before .before .before .before .args in
-    ((kept-same _, λ y. refl), (λ before q marked. put-source-cut (a .table .now) (a .n) (a .w) (a .place) (a .used) (a .s .now) (a .derives) before q (c .if1 .taken) _, λ m e. no-targets _ m e))
+    let c5 = c .before .before .before .before .before in
+    let a = c5 .args in (
+      (kept-same _, λ y. refl),
+      (
+        λ before q marked. put-source-cut (a .table .now) (a .n) (a .w) (a .place) (a .used)
+            (a .s .now) (a .derives) before q (c .if1 .taken) _,
+        λ m e. no-targets _ m e,
+      ),
+    )
 
 is-second-requires : tie.Need-is-second-requires
-is-second-requires c κs = (c .before .before .before .before .before .before .before .before .before .before .before .before .pre .0, omega (arith, (found-row (c .before .before .before .before .before .before .before .before .before .before .before .before .args .table .now) (c .before .before .before .before .before .before .before .before .before .before .before .before .args .n) _ _ _ (c .before .before .before .before .row-of .ensures) (c .before .before .f .given .1)) .0, c .before .before .before .before .before .before .before .before .before .before .before .before .pre .2))
+is-second-requires c κs =
+    let c2 = c .before .before in let c4 = c2 .before .before in
+    let c12 = c4 .before .before .before .before .before .before .before .before in (
+      c12 .pre .0,
+      omega (
+        arith,
+        (found-row (c12 .args .table .now) (c12 .args .n) _ _ _ (c4 .row-of .ensures)
+            (c2 .f .given .1)) .0,
+        c12 .pre .2,
+      ),
+    )
 
 returns-2 : tie.Need-returns-2
 returns-2 c =
-    let a = c .before .before .before .before .before .before .before .before .before .before .before .before .before .before .args in
-    ((kept-same _, λ y. refl), (λ before q marked. put-source-twice (a .table .now) (a .n) (a .w) (a .place) (a .used) (a .s .now) (a .derives) before q (c .before .before .before .before .before .before .before .before .before .if1 .left) _ ((found-row (a .table .now) (a .n) _ _ _ (c .before .before .before .before .before .before .row-of .ensures) (c .before .before .before .before .f .given .1)) .0) ((found-row (a .table .now) (a .n) _ _ _ (c .before .before .before .before .before .before .row-of .ensures) (c .before .before .before .before .f .given .1)) .1 ∙ c .before .before .before .before .before .before .before .be-id .ensures) marked (sym (c .before .is-second .ensures) ∙ c .if2 .taken) _, λ m e. no-targets _ m e))
+    let c4 = c .before .before .before .before in let c6 = c4 .before .before in let c7 = c6 .before in
+    let c9 = c7 .before .before in let c14 = c9 .before .before .before .before .before in
+    let a = c14 .args in (
+      (kept-same _, λ y. refl),
+      (
+        λ before q marked. put-source-twice (a .table .now) (a .n) (a .w) (a .place) (a .used)
+            (a .s .now) (a .derives) before q (c9 .if1 .left) _
+            ((found-row (a .table .now) (a .n) _ _ _ (c6 .row-of .ensures) (c4 .f .given .1)) .0)
+            ((found-row (a .table .now) (a .n) _ _ _ (c6 .row-of .ensures) (c4 .f .given .1)) .1 ∙ c7 .be-id .ensures)
+            marked (sym (c .before .is-second .ensures) ∙ c .if2 .taken) _,
+        λ m e. no-targets _ m e,
+      ),
+    )
 
 put-counted-requires : tie.Need-put-counted-requires
 put-counted-requires c κs =
-    let a = c .before .before .before .before .before .before .before .before .before .before .before .before .before .before .before .before .args in
-    (c .before .before .before .before .before .before .before .before .before .before .before .before .before .before .before .before .pre, (c .before .before .before .before .before .before .before .before .before .before .before .if1 .left, (found-row (a .table .now) (a .n) _ _ _ (c .before .before .before .before .before .before .before .before .row-of .ensures) (c .before .before .before .before .before .before .f .given .1)) .0, (found-row (a .table .now) (a .n) _ _ _ (c .before .before .before .before .before .before .before .before .row-of .ensures) (c .before .before .before .before .before .before .f .given .1)) .1 ∙ c .before .before .before .before .before .before .before .before .before .be-id .ensures))
+    let c6 = c .before .before .before .before .before .before in let c8 = c6 .before .before in let c9 = c8 .before in
+    let c11 = c9 .before .before in let c16 = c11 .before .before .before .before .before in
+    let a = c16 .args in (
+      c16 .pre,
+      (
+        c11 .if1 .left,
+        (found-row (a .table .now) (a .n) _ _ _ (c8 .row-of .ensures) (c6 .f .given .1)) .0,
+        (found-row (a .table .now) (a .n) _ _ _ (c8 .row-of .ensures) (c6 .f .given .1)) .1 ∙ c9 .be-id .ensures,
+      ),
+    )
 
 returns-3 : tie.Need-returns-3
 returns-3 c =
-    let a = c .before .before .before .before .before .before .before .before .before .before .args in
-    ((kept-same _, λ y. refl), (λ before q marked. put-source-unlisted (a .table .now) (a .n) (a .w) (a .place) (a .used) (a .s .now) (a .derives) before q (c .before .before .before .before .before .if1 .left) _ (c .before .before .before .be-id .ensures) (subst (FoundIs _ _ _) (c .enum-told .given .1) (c .before .before .row-of .ensures)) _, λ m e. no-targets _ m e))
+    let c2 = c .before .before in let c3 = c2 .before in let c5 = c3 .before .before in
+    let c10 = c5 .before .before .before .before .before in
+    let a = c10 .args in (
+      (kept-same _, λ y. refl),
+      (
+        λ before q marked. put-source-unlisted (a .table .now) (a .n) (a .w) (a .place)
+            (a .used) (a .s .now) (a .derives) before q (c5 .if1 .left) _ (c3 .be-id .ensures)
+            (subst (FoundIs _ _ _) (c .enum-told .given .1) (c2 .row-of .ensures)) _,
+        λ m e. no-targets _ m e,
+      ),
+    )
 
 returns-4 : tie.Need-returns-4
 returns-4 c =
-    let a = c .before .before .before .before .before .before .before .before .before .before .before .before .before .before .before .before .before .before .before .before .before .args in
-    (c .before .before .before .before .put-counted .ensures .0, (λ before q marked. c .before .before .before .before .put-counted .ensures .1 .0 before q (source-fresh (a .table .now) (a .n) (a .w) (a .place) (a .used) (a .s .now) (a .derives) before q (c .before .before .before .before .before .before .before .before .before .before .before .before .before .before .before .before .if1 .left) _ ((found-row (a .table .now) (a .n) _ _ _ (c .before .before .before .before .before .before .before .before .before .before .before .before .before .row-of .ensures) (c .before .before .before .before .before .before .before .before .before .before .before .f .given .1)) .0) ((found-row (a .table .now) (a .n) _ _ _ (c .before .before .before .before .before .before .before .before .before .before .before .before .before .row-of .ensures) (c .before .before .before .before .before .before .before .before .before .before .before .f .given .1)) .1 ∙ c .before .before .before .before .before .before .before .before .before .before .before .before .before .before .be-id .ensures) marked (sym (c .before .before .before .before .before .before .before .before .is-second .ensures) ∙ c .before .before .before .before .before .before .before .if2 .left)), c .before .before .before .before .put-counted .ensures .1 .1))
+    let c4 = c .before .before .before .before in let c7 = c4 .before .before .before in let c8 = c7 .before in
+    let c11 = c8 .before .before .before in let c13 = c11 .before .before in let c14 = c13 .before in
+    let c16 = c14 .before .before in let c21 = c16 .before .before .before .before .before in
+    let a = c21 .args in (
+      c4 .put-counted .ensures .0,
+      (
+        λ before q marked. c4 .put-counted .ensures .1 .0 before q
+            (source-fresh (a .table .now) (a .n) (a .w) (a .place) (a .used) (a .s .now) (a .derives) before q
+            (c16 .if1 .left) _ ((found-row (a .table .now) (a .n) _ _ _ (c13 .row-of .ensures) (c11 .f .given .1)) .0)
+            ((found-row (a .table .now) (a .n) _ _ _ (c13 .row-of .ensures) (c11 .f .given .1)) .1 ∙ c14 .be-id .ensures)
+            marked (sym (c8 .is-second .ensures) ∙ c7 .if2 .left)),
+        c4 .put-counted .ensures .1 .1,
+      ),
+    )
 
 pub put-reference-spec : {M : Type 1} → statement M
 put-reference-spec =
-    tie.close (tie.spec returns (λ c κs. search needs) (λ c κs. search needs) (search needs) (search needs) is-second-requires
-    (search needs) returns-2 put-counted-requires (search needs) returns-3 (search needs) (search needs) returns-4)
+    tie.close (tie.spec returns (λ c κs. search needs) (λ c κs. search needs) (search needs) (search needs)
+    is-second-requires (search needs) returns-2 put-counted-requires (search needs) returns-3 (search needs)
+    (search needs) returns-4)

@@ -13,33 +13,69 @@ use Rattle.references.proofs.read_references.Tie as tie
 
 put-references-requires : tie.Need-put-references-requires
 put-references-requires c κs =
-    let p = c .before .before .before .before .before .before .before .before .before .before .before .pre in
-    ((p .0 .0, p .0 .1, p .0 .2, p .0 .3, (full-here (upto 1) (c .before .before .before .before .before .before .before .before .before .before .before .args .place) (c .before .before .before .before .before .before .before .before .before .before .before .args .s .now) _ _ (sym (c .before .before .before .before .before .before .read-full .ensures) ∙ c .before .before .before .before .h2 .given .1)) .room, inl refl), p .1)
+    let c4 = c .before .before .before .before in let c6 = c4 .before .before in
+    let c11 = c6 .before .before .before .before .before in
+    let p = c11 .pre in (
+      (
+        p .0 .0,
+        p .0 .1,
+        p .0 .2,
+        p .0 .3,
+        (full-here (upto 1) (c11 .args .place) (c11 .args .s .now) _ _
+            (sym (c6 .read-full .ensures) ∙ c4 .h2 .given .1)) .room,
+        inl refl,
+      ),
+      p .1,
+    )
 
 returns : tie.Need-returns
 returns c =
-    let a = c .before .before .before .before .before .before .before .before .before .before .before .before .before .before .before .before .args in
-    let x = tells-by (a .s .now) (a .place) (a .base) (a .n) (a .table .now) _ _ (full-here (upto 1) (a .place) (a .s .now) _ _ (sym (c .before .before .before .before .before .before .before .before .before .before .before .read-full .ensures) ∙ c .before .before .before .before .before .before .before .before .before .h2 .given .1)) 2 (pick-yes _ _ (eq-eqb _ _ (c .before .before .before .before .before .before .before .if1 .taken))) _ _ (c .before .before .before .before .put-references .ensures .0) (c .before .before .before .before .put-references .ensures .1 .0) in
-    (x .0, (x .1, c .before .before .before .before .put-references .ensures .1 .1))
+    let c4 = c .before .before .before .before in let c7 = c4 .before .before .before in let c9 = c7 .before .before in
+    let c11 = c9 .before .before in let c16 = c11 .before .before .before .before .before in
+    let a = c16 .args in
+    let x = tells-by (a .s .now) (a .place) (a .base) (a .n) (a .table .now) _ _
+    (full-here (upto 1) (a .place) (a .s .now) _ _ (sym (c11 .read-full .ensures) ∙ c9 .h2 .given .1)) 2
+    (pick-yes _ _ (eq-eqb _ _ (c7 .if1 .taken))) _ _ (c4 .put-references .ensures .0)
+    (c4 .put-references .ensures .1 .0) in
+    (x .0, (x .1, c4 .put-references .ensures .1 .1))
 
 put-references-requires-2 : tie.Need-put-references-requires-2
 put-references-requires-2 c κs =
-    let p = c .before .before .before .before .before .before .before .before .before .before .before .pre in
-    ((p .0 .0, p .0 .1, p .0 .2, p .0 .3, (full-here (upto 1) (c .before .before .before .before .before .before .before .before .before .before .before .args .place) (c .before .before .before .before .before .before .before .before .before .before .before .args .s .now) _ _ (sym (c .before .before .before .before .before .before .read-full .ensures) ∙ c .before .before .before .before .h2 .given .1)) .room, inr refl), p .1)
+    let c4 = c .before .before .before .before in let c6 = c4 .before .before in
+    let c11 = c6 .before .before .before .before .before in
+    let p = c11 .pre in (
+      (
+        p .0 .0,
+        p .0 .1,
+        p .0 .2,
+        p .0 .3,
+        (full-here (upto 1) (c11 .args .place) (c11 .args .s .now) _ _
+            (sym (c6 .read-full .ensures) ∙ c4 .h2 .given .1)) .room,
+        inr refl,
+      ),
+      p .1,
+    )
 
 returns-2 : tie.Need-returns-2
 returns-2 c =
-    let a = c .before .before .before .before .before .before .before .before .args in
-    let x = tells-gone (a .s .now) (a .place) (a .base) (a .n) (a .table .now) _ (full-gone (upto 1) (a .place) (a .s .now) _ _ (sym (c .before .before .before .read-full .ensures) ∙ c .before .h .given .1)) in
+    let c3 = c .before .before .before in let c8 = c3 .before .before .before .before .before in
+    let a = c8 .args in
+    let x = tells-gone (a .s .now) (a .place) (a .base) (a .n) (a .table .now) _
+    (full-gone (upto 1) (a .place) (a .s .now) _ _ (sym (c3 .read-full .ensures) ∙ c .before .h .given .1)) in
     (x .0, (x .1, λ m e. no-targets _ m e))
 
 returns-3 : tie.Need-returns-3
 returns-3 c =
-    let a = c .before .before .before .before .before .before .before .before .before .before .before .before .before .before .before .before .args in
-    let x = tells-by (a .s .now) (a .place) (a .base) (a .n) (a .table .now) _ _ (full-here (upto 1) (a .place) (a .s .now) _ _ (sym (c .before .before .before .before .before .before .before .before .before .before .before .read-full .ensures) ∙ c .before .before .before .before .before .before .before .before .before .h2 .given .1)) 4 (pick-no _ _ (ne-eqb _ _ (c .before .before .before .before .before .before .before .if1 .left))) _ _ (c .before .before .before .before .put-references2 .ensures .0) (c .before .before .before .before .put-references2 .ensures .1 .0) in
-    (x .0, (x .1, c .before .before .before .before .put-references2 .ensures .1 .1))
+    let c4 = c .before .before .before .before in let c7 = c4 .before .before .before in let c9 = c7 .before .before in
+    let c11 = c9 .before .before in let c16 = c11 .before .before .before .before .before in
+    let a = c16 .args in
+    let x = tells-by (a .s .now) (a .place) (a .base) (a .n) (a .table .now) _ _
+    (full-here (upto 1) (a .place) (a .s .now) _ _ (sym (c11 .read-full .ensures) ∙ c9 .h2 .given .1)) 4
+    (pick-no _ _ (ne-eqb _ _ (c7 .if1 .left))) _ _ (c4 .put-references2 .ensures .0)
+    (c4 .put-references2 .ensures .1 .0) in
+    (x .0, (x .1, c4 .put-references2 .ensures .1 .1))
 
 pub read-references-spec : {M : Type 1} → statement M
 read-references-spec =
-    tie.close (tie.spec (search needs) (search needs) (search needs) put-references-requires (search needs) (search needs)
-    returns put-references-requires-2 returns-2 (search needs) (search needs) returns-3)
+    tie.close (tie.spec (search needs) (search needs) (search needs) put-references-requires (search needs)
+    (search needs) returns put-references-requires-2 returns-2 (search needs) (search needs) returns-3)

@@ -9,5 +9,5 @@ returns c = rw (sym (c .before .before .is-good-side .ensures) ∙ c .before .if
 
 pub is-good-size-spec : {M : Type 1} → statement M
 is-good-size-spec =
-    tie.close (tie.spec (search needs) (search needs) returns
-    (λ c. rw (sym (c .before .is-good-side .ensures) ∙ c .if1 .left)))
+    tie.close (tie.spec (search needs) (search needs) returns (λ c. rw
+    (sym (c .before .is-good-side .ensures) ∙ c .if1 .left)))

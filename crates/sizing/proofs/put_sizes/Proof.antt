@@ -7,7 +7,9 @@ use Rattle.sizing.proofs.put_sizes.Statement.{statement}
 use Rattle.sizing.proofs.put_sizes.Tie as tie
 
 returns : tie.Need-returns
-returns c = let a = c .before .before .args in sizes-stored (a .table .now) _ (a .row .0) (a .s) (a .o) (a .depth) (c .item .ensures)
+returns c =
+    let a = c .before .before .args in
+    sizes-stored (a .table .now) _ (a .row .0) (a .s) (a .o) (a .depth) (c .item .ensures)
 
 pub put-sizes-spec : {M : Type 1} → statement M
 put-sizes-spec =

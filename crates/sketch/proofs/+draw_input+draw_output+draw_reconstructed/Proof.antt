@@ -1,4 +1,6 @@
--- `sketch::draw_output`, `sketch::draw_reconstructed` and `sketch::draw_input`, which call each other, are safe, end, and never leave more to draw than there was. The measure: three for each derivation that may still be gone down, two more at an output image and one more at a reconstructed one. Assumes nothing.
+-- `sketch::draw_output`, `sketch::draw_reconstructed` and `sketch::draw_input`, which call each other, are safe, end,
+-- and never leave more to draw than there was. The measure: three for each derivation that may still be gone down, two
+-- more at an output image and one more at a reconstructed one. Assumes nothing.
 use native.Mathlib.Omega.{arith}
 use borrow.Author.Needs.{needs}
 use Prim.Native.Nat.{ℕ, _+_, _*_, _-_, _≤_, _<_}
@@ -22,25 +24,25 @@ use Rattle.sketch.proofs.input_count.Reads as input-count-reads
 use Rattle.sketch.proofs.lying_in.Reads as lying-in-reads
 use Rattle.sketch.proofs.open_input.Reads as open-input-reads
 use Rattle.sketch.proofs.open_item.Reads as open-item-reads
-use Rattle.sketch.proofs.place.fewer.Reads as fewer-reads
+use Rattle.layout.proofs.fewer.Reads as fewer-reads
 use Rattle.sketch.proofs.seen_at.Reads as seen-at-reads
 use Rattle.sketch.proofs.shut.Reads as shut-reads
 use Rattle.sketch.proofs.turns.close_turns.Reads as close-turns-reads
 use Rattle.sketch.proofs.turns.open_turns.Reads as open-turns-reads
-use Rattle.sketch.proofs.turns.part_within.Reads as part-within-reads
-use Rattle.sketch.proofs.turns.pose_within.Reads as pose-within-reads
+use Rattle.turned.proofs.part_within.Reads as part-within-reads
+use Rattle.turned.proofs.pose_within.Reads as pose-within-reads
 use Rattle.views.proofs.type_of.Reads as type-of-reads
 use Rattle.sketch.proofs.+draw_input+draw_output+draw_reconstructed.{statement}
 use Rattle.sketch.proofs.+draw_input+draw_output+draw_reconstructed.Tie.{close}
 
 abbrev μ-draw-input : Measures 3 draw-input-kinds.ps ℕ
-μ-draw-input κs a = 3 * a .1 .1 .1 .0
+μ-draw-input κs a = 3 * a .1 .1 .1 .0 .down
 
 abbrev μ-draw-output : Measures 3 draw-output-kinds.ps ℕ
-μ-draw-output κs a = 3 * a .1 .1 .1 .0 + 2
+μ-draw-output κs a = 3 * a .1 .1 .1 .0 .down + 2
 
 abbrev μ-draw-reconstructed : Measures 3 draw-reconstructed-kinds.ps ℕ
-μ-draw-reconstructed κs a = 3 * a .1 .1 .1 .0 + 1
+μ-draw-reconstructed κs a = 3 * a .1 .1 .1 .0 .down + 1
 
 abbrev draw-input-at : ℕ → In 3 draw-input-kinds.ps
 draw-input-at t =
@@ -60,18 +62,11 @@ draw-output-below t =
 
 abbrev draw-reconstructed-at : ℕ → In 3 draw-reconstructed-kinds.ps
 draw-reconstructed-at t =
-    and
-    3
-    draw-reconstructed-kinds.ps
-    (is 3 draw-reconstructed-kinds.ps μ-draw-reconstructed t)
-    draw-reconstructed.Pre
+    and 3 draw-reconstructed-kinds.ps (is 3 draw-reconstructed-kinds.ps μ-draw-reconstructed t) draw-reconstructed.Pre
 
 abbrev draw-reconstructed-below : ℕ → In 3 draw-reconstructed-kinds.ps
 draw-reconstructed-below t =
-    and
-    3
-    draw-reconstructed-kinds.ps
-    (falls 3 draw-reconstructed-kinds.ps _<_ μ-draw-reconstructed t)
+    and 3 draw-reconstructed-kinds.ps (falls 3 draw-reconstructed-kinds.ps _<_ μ-draw-reconstructed t)
     draw-reconstructed.Pre
 
 abbrev draw-input-claims : ℕ → draw-input-lts.Claims
@@ -127,63 +122,39 @@ draw-reconstructed-claims t = (
 )
 
 draw-input-draw-output-requires : (t : ℕ) → draw-input-lts.Need-draw-output-requires (draw-input-claims t) (draw-input-at t) draw-input.Post
-draw-input-draw-output-requires t c κs = (omega (arith, c .before .before .if1 .left, c .before .before .before .before .before .before .before .before .before .before .before .before .before .before .pre .0), tt)
+draw-input-draw-output-requires t c κs =
+    let c5 = c .before .before .before .before .before in
+    let c18 = c5 .before .before .before .before .before .before .before .before .before .before .before .before .before
+    in
+    (omega (arith, c5 .if1 .left, c18 .pre .0), tt)
 
 draw-output-draw-reconstructed-requires :
     (t : ℕ) → draw-output-lts.Need-draw-reconstructed-requires (draw-output-claims t) (draw-output-at t) draw-output.Post
 draw-output-draw-reconstructed-requires t c κs = search needs
 
 abbrev draw-reconstructed-Inv-loop : draw-reconstructed-lts.InvT-loop
-draw-reconstructed-Inv-loop head table rows d row lying scale left n rest₀ k₀ rest k = (k ≤ n) × (rest ≤ left)
+draw-reconstructed-Inv-loop head table rows limit row lying n rest₀ k₀ rest k = (k ≤ n) × (rest ≤ limit .left)
 
 abbrev draw-reconstructed-μ-loop : draw-reconstructed-lts.MeasureT-loop
-draw-reconstructed-μ-loop head table rows d row lying scale left n rest₀ k₀ rest k = n - k
+draw-reconstructed-μ-loop head table rows limit row lying n rest₀ k₀ rest k = n - k
 
 draw-reconstructed-input-count-requires :
-    (t : ℕ) → draw-reconstructed-lts.Need-input-count-requires (draw-reconstructed-claims t) (draw-reconstructed-at t) draw-reconstructed.Post draw-reconstructed-Inv-loop draw-reconstructed-μ-loop
+    (t : ℕ) →
+    draw-reconstructed-lts.Need-input-count-requires (draw-reconstructed-claims t) (draw-reconstructed-at t)
+    draw-reconstructed.Post draw-reconstructed-Inv-loop draw-reconstructed-μ-loop
 draw-reconstructed-input-count-requires t c κs = search needs
 
 pub +draw-input+draw-output+draw-reconstructed-spec : {M : Type 1} → statement M
 +draw-input+draw-output+draw-reconstructed-spec =
     close μ-draw-input μ-draw-output μ-draw-reconstructed (λ t. draw-input-lts.spec (draw-input-claims t)
-    (draw-input-at t)
-    draw-input.Post
-    (λ c κs. search needs)
-    (λ c κs. search needs)
-    (λ c κs. search needs)
-    (λ c κs. search needs)
-    (search needs)
-    (λ c κs. search needs)
-    (search needs)
-    (λ c κs. search needs)
-    (λ c κs. search needs)
-    (λ c. search needs)
-    (λ c κs. search needs)
-    (λ c. search needs)
-    (λ c κs. search needs)
-    (search needs)
-    (search needs)
-    (draw-input-draw-output-requires t)
-    (λ c κs. search needs)
-    (λ c. search needs)
-    (λ c. search needs))
-    (λ t. draw-output-lts.spec (draw-output-claims t)
-    (draw-output-at t)
-    draw-output.Post
-    (λ c κs. search needs)
-    (λ c κs. search needs)
-    (λ c κs. search needs)
-    (λ c κs. search needs)
-    (draw-output-draw-reconstructed-requires t)
-    (λ c κs. search needs)
-    (λ c. search needs))
-    λ t. draw-reconstructed-lts.spec (draw-reconstructed-claims t) (draw-reconstructed-at t) draw-reconstructed.Post draw-reconstructed-Inv-loop draw-reconstructed-μ-loop
-    (λ c κs. search needs)
-    (draw-reconstructed-input-count-requires t)
-    (search needs)
-    (λ c κs. search needs)
-    (search needs)
-    (search needs)
-    (λ c. search needs)
-    (λ c κs. search needs)
-    (λ c. search needs)
+    (draw-input-at t) draw-input.Post (λ c κs. search needs) (λ c κs. search needs) (λ c κs. search needs)
+    (λ c κs. search needs) (search needs) (λ c κs. search needs) (search needs) (λ c κs. search needs)
+    (λ c κs. search needs) (λ c. search needs) (λ c κs. search needs) (λ c. search needs) (λ c κs. search needs)
+    (search needs) (search needs) (draw-input-draw-output-requires t) (λ c κs. search needs) (λ c. search needs)
+    (λ c. search needs)) (λ t. draw-output-lts.spec (draw-output-claims t) (draw-output-at t) draw-output.Post
+    (λ c κs. search needs) (λ c κs. search needs) (λ c κs. search needs) (λ c κs. search needs)
+    (draw-output-draw-reconstructed-requires t) (λ c κs. search needs) (λ c. search needs)) λ t.
+    draw-reconstructed-lts.spec (draw-reconstructed-claims t) (draw-reconstructed-at t) draw-reconstructed.Post
+    draw-reconstructed-Inv-loop draw-reconstructed-μ-loop (λ c κs. search needs)
+    (draw-reconstructed-input-count-requires t) (search needs) (λ c κs. search needs) (search needs) (search needs)
+    (λ c. search needs) (λ c κs. search needs) (λ c. search needs)

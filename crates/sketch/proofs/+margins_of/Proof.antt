@@ -9,7 +9,7 @@ use Rattle.sketch.proofs.+margins_of.Lts-margins_of as margins-of-lts
 use Rattle.derived.proofs.input_of.Reads as input-of-reads
 use Rattle.sizing.proofs.declared_in.Reads as declared-in-reads
 use Rattle.sketch.proofs.no_margins.Reads as no-margins-reads
-use Rattle.sketch.proofs.turns.margins_through.Reads as margins-through-reads
+use Rattle.turned.proofs.margins_through.Reads as margins-through-reads
 use Rattle.views.proofs.type_of.Reads as type-of-reads
 use Rattle.sketch.proofs.+margins_of.{statement}
 use Rattle.sketch.proofs.+margins_of.Tie.{close}
@@ -42,17 +42,8 @@ margins-of-claims t = (
 )
 
 pub +margins-of-spec : {M : Type 1} → statement M
-+margins-of-spec = close μ-margins-of λ t. margins-of-lts.spec (margins-of-claims t)
-    (margins-of-at t)
-    margins-of.Post
-    (λ c κs. search needs)
-    (λ c κs. search needs)
-    (search needs)
-    (λ c κs. search needs)
-    (λ c κs. search needs)
-    (λ c κs. search needs)
-    (λ c. search needs)
-    (λ c κs. search needs)
-    (λ c κs. search needs)
-    (λ c κs. search needs)
++margins-of-spec =
+    close μ-margins-of λ t. margins-of-lts.spec (margins-of-claims t) (margins-of-at t) margins-of.Post
+    (λ c κs. search needs) (λ c κs. search needs) (search needs) (λ c κs. search needs) (λ c κs. search needs)
+    (λ c κs. search needs) (λ c. search needs) (λ c κs. search needs) (λ c κs. search needs) (λ c κs. search needs)
     (λ c. search needs)

@@ -5,10 +5,10 @@ use Rattle.sketch.proofs.tag_layers.Statement.{statement}
 use Rattle.sketch.proofs.tag_layers.Tie as tie
 
 abbrev Inv-loop : tie.InvT-loop
-Inv-loop head table rows row lying scale n k₀ k = k ≤ n
+Inv-loop head table rows row lying n k₀ k = k ≤ n
 
 abbrev μ-loop : tie.MeasureT-loop
-μ-loop head table rows row lying scale n k₀ k = n - k
+μ-loop head table rows row lying n k₀ k = n - k
 
 pub tag-layers-spec : {M : Type 1} → statement M
 tag-layers-spec =

@@ -2,20 +2,36 @@
 use native.Mathlib.Omega.{arith}
 use Prim.Native.Nat.{_<_}
 use mathlib.Core.Path.{sym, _∙_}
-use Rattle.still.proofs.QuestionLaws.{file-view}
+use Rattle.opening.proofs.FileLaws.{file-view}
 use Rattle.still.proofs.PropertyLaws.{property-off, property-found, property-on, index-there}
 use borrow.Author.Needs.{needs}
 use Rattle.still.proofs.property.Statement.{statement}
 use Rattle.still.proofs.property.Tie as tie
 
 returns : tie.Need-returns
-returns c = let a = c .before .before .before .before .before .before .before .before .before .before .before .before .before .before .before .before .args in let o = property-off (a .total) (a .head .now) (a .table .now) (a .id .0) (a .k) _ (sym (c .before .before .before .before .before .before .before .before .before .before .before .property-asked .ensures .0) ∙ c .before .before .before .before .before .before .before .a .given .1) in (o .0, (c .before .before .before .put-told .ensures ∙ o .1 (a .told .now), c .before .before .before .before .before .before .before .before .before .before .before .property-asked .ensures .1))
+returns c =
+    let c4 = c .before .before .before .before in let c8 = c4 .before .before .before .before in
+    let c12 = c8 .before .before .before .before in
+    let a = c12 .args in
+    let asked = c8 .property-asked .ensures in
+    let o = property-off (a .total) (a .head .now) (a .table .now) (a .id .0) (a .k) _
+    (sym (asked .0) ∙ c4 .a .given .1) in
+    (o .0, (o .1, asked .1))
 
 returns-2 : tie.Need-returns-2
-returns-2 c = let a = c .before .before .before .before .before .before .before .before .before .before .before .before .before .before .before .before .args in let k = property-found (a .total) (a .head .now) (a .table .now) (a .id .0) (a .k) _ (sym (c .before .before .before .before .before .before .before .before .before .before .before .property-asked .ensures .0) ∙ c .before .before .before .before .before .before .before .a2 .given .1) in let few : a .total < 18446744073709551616 = omega (arith, c .before .before .before .before .before .before .before .before .before .before .before .before .before .before .before .before .fits .total) in let o = c .before .before .before .before .before .before .before .before .before .before .before .property-asked .ensures .1 in let v = file-view (a .total) (a .head .now) (a .table .now) few (k .0) (k .1) _ o in let z = property-on (a .total) (a .head .now) (a .table .now) (a .id .0) (a .k) (k .0) _ (k .1) (k .2) in (c .property-box .ensures _ (k .0) v (index-there _ _ _ (k .0) _ _ _ v (k .2)) ∙ z .0, (c .before .before .before .before .put-told2 .ensures ∙ z .1 (a .told .now), o))
+returns-2 c =
+    let c4 = c .before .before .before .before in let c8 = c4 .before .before .before .before in
+    let c12 = c8 .before .before .before .before in
+    let a = c12 .args in
+    let asked = c8 .property-asked .ensures in
+    let k = property-found (a .total) (a .head .now) (a .table .now) (a .id .0) (a .k) _
+    (sym (asked .0) ∙ c4 .a2 .given .1) in
+    let few : a .total < 18446744073709551616 = omega (arith, c12 .fits .total) in
+    let v = file-view (a .total) (a .head .now) (a .table .now) few (k .0) (k .1) _ (asked .1) in
+    let z = property-on (a .total) (a .head .now) (a .table .now) (a .id .0) (a .k) (k .0) _ (k .1) (k .2) in
+    (c .property-box .ensures _ (k .0) v (index-there _ _ _ (k .0) _ _ _ v (k .2)) ∙ z .0, (z .1, asked .1))
 
 pub property-spec : {M : Type 1} → statement M
 property-spec =
-    tie.close (tie.spec (search needs) (search needs) (search needs) (search needs) (search needs) (search needs)
-    (search needs) (λ c κs. search needs) (search needs) (search needs) returns (search needs) (search needs)
-    returns-2)
+    tie.close (tie.spec (λ c κs. search needs) (search needs) (search needs) (search needs) (search needs)
+    (λ c κs. search needs) (search needs) returns (search needs) returns-2)

@@ -4,7 +4,9 @@ use Rattle.still_c.proofs.still_orientation.Statement.{statement}
 use Rattle.still_c.proofs.still_orientation.Tie as tie
 
 returns : tie.Need-returns
-returns c = (c .oriented-numbers .ensures _ (c .before .before .before .orientation .ensures .0), c .before .before .before .orientation .ensures .1)
+returns c =
+    let c3 = c .before .before .before in
+    (c .oriented-numbers .ensures _ (c3 .orientation .ensures .0), c3 .orientation .ensures .1)
 
 pub still-orientation-spec : {M : Type 1} → statement M
 still-orientation-spec = tie.close (tie.spec (search needs) (search needs) (search needs) returns)

@@ -4,7 +4,9 @@ use Rattle.still_c.proofs.still_size.Statement.{statement}
 use Rattle.still_c.proofs.still_size.Tie as tie
 
 returns : tie.Need-returns
-returns c = (c .sized-numbers .ensures _ (c .before .before .before .size .ensures .0), c .before .before .before .size .ensures .1)
+returns c =
+    let c3 = c .before .before .before in
+    (c .sized-numbers .ensures _ (c3 .size .ensures .0), c3 .size .ensures .1)
 
 pub still-size-spec : {M : Type 1} → statement M
 still-size-spec = tie.close (tie.spec (search needs) (search needs) (search needs) returns)

@@ -4,7 +4,9 @@ use Rattle.still_c.proofs.still_trace.Statement.{statement}
 use Rattle.still_c.proofs.still_trace.Tie as tie
 
 returns : tie.Need-returns
-returns c = (c .traced-numbers .ensures _ (c .before .before .before .trace .ensures .0), c .before .before .before .trace .ensures .1)
+returns c =
+    let c3 = c .before .before .before in
+    (c .traced-numbers .ensures _ (c3 .trace .ensures .0), c3 .trace .ensures .1)
 
 pub still-trace-spec : {M : Type 1} → statement M
 still-trace-spec = tie.close (tie.spec (search needs) (search needs) (search needs) returns)

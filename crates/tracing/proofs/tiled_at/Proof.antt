@@ -11,14 +11,16 @@ returns c =
     λ total head f d h g q e i.
     let a = c .before .before .before .before .args in
     let k = c .before .before .input-row in
-    absurd (tile-wide d (a .row .0) h g q (a .p) i (k .result .0) (k .ensures head _ f (d .view) h) _ (c .before .output-in .ensures) (c .if1 .taken))
+    absurd (tile-wide d (a .row .0) h g q (a .p) i (k .result .0) (k .ensures head _ f (d .view) h) _
+    (c .before .output-in .ensures) (c .if1 .taken))
 
 returns-2 : tie.Need-returns-2
 returns-2 c =
     λ total head f d h g q e i.
     let a = c .before .before .before .before .before .args in
     let k = c .before .before .before .input-row in
-    absurd (tile-high d (a .row .0) h g q (a .p) i (k .result .0) (k .ensures head _ f (d .view) h) _ (c .before .before .output-in .ensures) (c .if2 .taken))
+    absurd (tile-high d (a .row .0) h g q (a .p) i (k .result .0) (k .ensures head _ f (d .view) h) _
+    (c .before .before .output-in .ensures) (c .if2 .taken))
 
 cast-j : tie.Need-cast-j
 cast-j c =
@@ -30,7 +32,11 @@ mul-j : tie.Need-mul-j
 mul-j c =
     let a = c .before .before .before .before .before .args in
     let z = c .before .before .output-in .result in
-    omega (arith, tile-number (a .p .x) (a .p .y) (z .wide) (z .high) (a .columns) (omega arith) (omega arith) (omega arith) .0)
+    omega (
+      arith,
+      tile-number (a .p .x) (a .p .y) (z .wide) (z .high) (a .columns) (omega arith) (omega arith)
+          (omega arith) .0,
+    )
 
 cast-j-2 : tie.Need-cast-j-2
 cast-j-2 c =
@@ -42,14 +48,20 @@ add-j : tie.Need-add-j
 add-j c =
     let a = c .before .before .before .before .before .args in
     let z = c .before .before .output-in .result in
-    omega (arith, tile-number (a .p .x) (a .p .y) (z .wide) (z .high) (a .columns) (omega arith) (omega arith) (omega arith) .1)
+    omega (
+      arith,
+      tile-number (a .p .x) (a .p .y) (z .wide) (z .high) (a .columns) (omega arith) (omega arith)
+          (omega arith) .1,
+    )
 
 returns-3 : tie.Need-returns-3
 returns-3 c =
     λ total head f d h g q e i.
     let a = c .before .before .before .before .before .before .args in
     let k = c .before .before .before .before .input-row in
-    tiled-source d (a .row .0) h g q (a .p) i (k .result .0) (k .ensures head _ f (d .view) h) _ (c .before .before .before .output-in .ensures) (a .columns) e (c .input-row2 .result) (c .input-row2 .ensures head _ f (d .view) h)
+    tiled-source d (a .row .0) h g q (a .p) i (k .result .0) (k .ensures head _ f (d .view) h) _
+    (c .before .before .before .output-in .ensures) (a .columns) e (c .input-row2 .result)
+    (c .input-row2 .ensures head _ f (d .view) h)
 
 pub tiled-at-spec : {M : Type 1} → statement M
 tiled-at-spec =

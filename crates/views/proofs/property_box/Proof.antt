@@ -7,13 +7,20 @@ use Rattle.views.proofs.property_box.Statement.{statement}
 use Rattle.views.proofs.property_box.Tie as tie
 
 returns : tie.Need-returns
-returns c = λ pl f v h. sym (property-none f (c .before .before .before .before .args .index .0) (c .before .if1 .taken))
+returns c =
+    let c4 = c .before .before .before .before in
+    λ pl f v h. sym (property-none f (c4 .args .index .0) (c .before .if1 .taken))
 
 returns-2 : tie.Need-returns-2
-returns-2 c = λ pl f v h. absurd (omega (arith, index-small v (c .before .before .before .before .before .args .index .0) h))
+returns-2 c =
+    let c5 = c .before .before .before .before .before in
+    λ pl f v h. absurd (omega (arith, index-small v (c5 .args .index .0) h))
 
 returns-3 : tie.Need-returns-3
-returns-3 c = λ pl f v h. part-read v (c .before .before .before .before .before .before .before .args .index .0) h (c .before .before .before .before .if1 .left) _ _ _ (c .before .before .word .ensures) (c .before .word2 .ensures) (c .part .ensures .0)
+returns-3 c =
+    let c2 = c .before .before in let c4 = c2 .before .before in let c7 = c4 .before .before .before in
+    λ pl f v h. part-read v (c7 .args .index .0) h (c4 .if1 .left) _ _ _ (c2 .word .ensures) (c .before .word2 .ensures)
+    (c .part .ensures .0)
 
 pub property-box-spec : {M : Type 1} → statement M
 property-box-spec =

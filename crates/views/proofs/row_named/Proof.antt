@@ -7,7 +7,8 @@ use Rattle.views.proofs.row_named.Statement.{statement}
 use Rattle.views.proofs.row_named.Tie as tie
 
 returns-3 : tie.Need-returns-3
-returns-3 c = λ head pl f v. found-told v _ _ _ (c .before .before .before .item-count .ensures ∙ v .items) (c .row-of .ensures)
+returns-3 c =
+    λ head pl f v. found-told v _ _ _ (c .before .before .before .item-count .ensures ∙ v .items) (c .row-of .ensures)
 
 pub row-named-spec : {M : Type 1} → statement M
 row-named-spec =

@@ -11,15 +11,42 @@ returns c = simp (← c .before .is-printable .ensures, not-true (c .before .is-
 
 returns-2 : tie.Need-returns-2
 unfolding text
-returns-2 c = simp (← c .before .before .before .is-printable .ensures, not-false (c .before .before .before .is-printable .result) (c .before .before .if1 .left), ← c .before .is-printable2 .ensures, not-true (c .before .is-printable2 .result) (c .if2 .taken))
+returns-2 c =
+    let c2 = c .before .before in let c3 = c2 .before in
+    simp (
+      ← c3 .is-printable .ensures,
+      not-false (c3 .is-printable .result) (c2 .if1 .left),
+      ← c .before .is-printable2 .ensures,
+      not-true (c .before .is-printable2 .result) (c .if2 .taken),
+    )
 
 returns-3 : tie.Need-returns-3
 unfolding text
-returns-3 c = simp (← c .before .before .before .before .before .is-printable .ensures, not-false (c .before .before .before .before .before .is-printable .result) (c .before .before .before .before .if1 .left), ← c .before .before .before .is-printable2 .ensures, not-false (c .before .before .before .is-printable2 .result) (c .before .before .if2 .left), ← c .before .is-printable3 .ensures, not-true (c .before .is-printable3 .result) (c .if3 .taken))
+returns-3 c =
+    let c2 = c .before .before in let c3 = c2 .before in let c4 = c3 .before in let c5 = c4 .before in
+    simp (
+      ← c5 .is-printable .ensures,
+      not-false (c5 .is-printable .result) (c4 .if1 .left),
+      ← c3 .is-printable2 .ensures,
+      not-false (c3 .is-printable2 .result) (c2 .if2 .left),
+      ← c .before .is-printable3 .ensures,
+      not-true (c .before .is-printable3 .result) (c .if3 .taken),
+    )
 
 returns-4 : tie.Need-returns-4
 unfolding text
-returns-4 c = simp (← c .before .before .before .before .before .before .is-printable .ensures, not-false (c .before .before .before .before .before .before .is-printable .result) (c .before .before .before .before .before .if1 .left), ← c .before .before .before .before .is-printable2 .ensures, not-false (c .before .before .before .before .is-printable2 .result) (c .before .before .before .if2 .left), ← c .before .before .is-printable3 .ensures, not-false (c .before .before .is-printable3 .result) (c .before .if3 .left)) (c .is-printable4 .ensures)
+returns-4 c =
+    let c2 = c .before .before in let c3 = c2 .before in let c4 = c3 .before in let c5 = c4 .before in
+    let c6 = c5 .before in
+    simp (
+      ← c6 .is-printable .ensures,
+      not-false (c6 .is-printable .result) (c5 .if1 .left),
+      ← c4 .is-printable2 .ensures,
+      not-false (c4 .is-printable2 .result) (c3 .if2 .left),
+      ← c2 .is-printable3 .ensures,
+      not-false (c2 .is-printable3 .result) (c .before .if3 .left),
+    )
+    (c .is-printable4 .ensures)
 
 pub is-text-spec : {M : Type 1} → statement M
 is-text-spec =

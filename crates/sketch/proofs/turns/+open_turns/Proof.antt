@@ -9,7 +9,7 @@ use Rattle.sketch.proofs.turns.+open_turns.Lts-open_turns as open-turns
 use Rattle.canvas.proofs.open_turn.Reads as open-turn-reads
 use Rattle.declared.proofs.property_count.Reads as property-count-reads
 use Rattle.pictures.proofs.size_after.Reads as size-after-reads
-use Rattle.sketch.proofs.turns.turn_at.Reads as turn-at-reads
+use Rattle.turned.proofs.turn_at.Reads as turn-at-reads
 use Rattle.sketch.proofs.turns.+open_turns.{statement}
 use Rattle.sketch.proofs.turns.+open_turns.Tie.{close}
 
@@ -39,14 +39,7 @@ open-turns-claims t = (
 )
 
 pub +open-turns-spec : {M : Type 1} → statement M
-+open-turns-spec = close μ-open-turns λ t. open-turns-lts.spec (open-turns-claims t)
-    (open-turns-at t)
-    open-turns.Post
-    (λ c κs. search needs)
-    (λ c. search needs)
-    (λ c κs. search needs)
-    (search needs)
-    (λ c κs. search needs)
-    (λ c κs. search needs)
-    (λ c κs. search needs)
-    (λ c. search needs)
++open-turns-spec =
+    close μ-open-turns λ t. open-turns-lts.spec (open-turns-claims t) (open-turns-at t) open-turns.Post
+    (λ c κs. search needs) (λ c. search needs) (λ c κs. search needs) (search needs) (λ c κs. search needs)
+    (λ c κs. search needs) (λ c κs. search needs) (λ c. search needs)

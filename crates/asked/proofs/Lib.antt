@@ -1,0 +1,2 @@
+pub mod PicturedLaws
+pub mod AskedLaws

@@ -1,0 +1,4 @@
+pub mod KeepLaws
+pub mod AssociationLaws
+pub mod EntryLaws
+pub mod NameLaws

@@ -1,0 +1,71 @@
+-- Demand 1: a table's length, the words behind it, and the two numbers that carry a refusal. Assumes nothing.
+use Prim.Native.Nat.{ℕ, _<_}
+use native.Mathlib.Omega.{arith}
+use mathlib.Core.Path.{_≡_, refl, sym, ap, subst, _∙_}
+use mathlib.Core.List.{List, [], _∷_, _++_}
+use mathlib.Core.Bool.{Bool, true, false}
+use lib.ListN.{length, getD, drop, replicate, length-replicate}
+use lib.Seq.{drop-at}
+use lib.Dec.{leb}
+use Rattle.fields.specs.Choice.{pick}
+use Rattle.fields.proofs.TestLaws.{untrue}
+use Rattle.boxes.specs.Answer.{Answer, ok, refuse}
+use Rattle.contents.specs.File.{File}
+use Rattle.rules.specs.Words.{wordsOf}
+use Rattle.rules.specs.Opening.{accepted, leftBy, after}
+use Rattle.rules.proofs.RuleLaws.{judged-each, accepted-both}
+use Rattle.questions.specs.Questions as Q
+use Rattle.records.proofs.BoundLaws.{read-bounds}
+use Rattle.views.proofs.FillLaws.{filled-all, filled-length}
+use Rattle.still.specs.Told.{toldFault}
+use Rattle.still.specs.Given.{PropertyGiven}
+use Rattle.faults.specs.Good.{GoodFile}
+use Rattle.faults.proofs.GoodLaws.{good-accepted}
+use Rattle.demands.specs.Numbers.{Among, propertyNumbers}
+use Rattle.demands.proofs.Numbers.{property-number}
+
+module _ (head : List ℕ) (total : ℕ) (few : total < 18446744073709551616) where
+  accepted-long : (f : File) → accepted total head ≡ ok f → length (wordsOf total head f) ≡ 11280
+  accepted-long f e =
+      let a = accepted-both total head f e in
+      ap length (sym (filled-all total head f few (a .0) (judged-each total head f (a .1) .by-13-14))) ∙
+      filled-length total head f (read-bounds total head f (a .0) .0) (length (f .items))
+
+  -- the words of a file that keeps the rules are 11,280
+  pub words-long : (f : File) → GoodFile total head f → length (wordsOf total head f) ≡ 11280
+  words-long f g = accepted-long f (good-accepted total head f g)
+
+  -- "Words past 11,280 are never written.", by any call, answered or refused
+  pub words-behind : (table left : List ℕ) → left ≡ after total head table → drop 11280 left ≡ drop 11280 table
+  unfolding after leftBy pick
+  words-behind table left is = by (leb 11280 (length table)) (accepted total head) refl is
+    where
+      by : (t : Bool) (m : Answer File) → accepted total head ≡ m → left ≡ pick t (leftBy total head table m) table →
+          drop 11280 left ≡ drop 11280 table
+      by false m a l = ap (drop 11280) l
+      by true (ok f) a l = ap (drop 11280) l ∙ drop-at (wordsOf total head f) (drop 11280 table) 11280 (accepted-long f a)
+      by true (refuse n p) a l = ap (drop 11280) l ∙
+          drop-at (replicate 11280 0) (drop 11280 table) 11280 (length-replicate {A = ℕ} 11280 0)
+
+-- no refusal of `property` can be lost: the first of the two numbers is 0 exactly where it is answered
+pub property-carried : (head : List ℕ) (total : ℕ) (table : List ℕ) (id k : ℕ) (part told left : List ℕ) →
+    PropertyGiven head total table id k part told left →
+    (getD told 0 0 ≡ 0 → (p : Q.Part) × (Q.property (length table) total head id k ≡ ok p)) ×
+    ((p : Q.Part) → Q.property (length table) total head id k ≡ ok p → getD told 0 0 ≡ 0)
+unfolding toldFault
+property-carried head total table id k part told left g = by (Q.property (length table) total head id k) refl (g .1 .0)
+  where
+    by : (m : Answer Q.Part) → Q.property (length table) total head id k ≡ m → told ≡ toldFault m →
+        (getD told 0 0 ≡ 0 → (p : Q.Part) × (Q.property (length table) total head id k ≡ ok p)) ×
+        ((p : Q.Part) → Q.property (length table) total head id k ≡ ok p → getD told 0 0 ≡ 0)
+    by (ok p) e t = (λ z. (p, e), λ q a. ap (λ (l : List ℕ). getD l 0 0) t)
+    by (refuse n p) e t = (
+      λ z. absurd (none (sym (ap (λ (l : List ℕ). getD l 0 0) t) ∙ z)),
+      λ q a. never q (sym a ∙ e),
+    )
+      where
+        none : n ≡ 0 → ⊥
+        none z = untrue (subst (λ (i : ℕ). Among propertyNumbers i) z (property-number total head (length table) n p id k e))
+
+        never : (q : Q.Part) → ok q ≡ refuse n p → getD told 0 0 ≡ 0
+        never q a = let z : _≡_ {A = ℕ} 0 1 = cc in absurd (omega arith)

@@ -1,0 +1,3 @@
+pub mod Pose
+pub mod Part
+pub mod Margins

@@ -1,0 +1,3 @@
+pub mod MemberLaws
+pub mod MarkLaws
+pub mod GroundLaws
