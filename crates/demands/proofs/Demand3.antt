@@ -1,6 +1,7 @@
 -- Demand 3, of the reader's answer: in a file that keeps the rules, every pixel inside the output size of any picture
--- has one path; it ends in a coded picture's pixel or an overlay's fill, and `trace` tells that end and the number of
--- pictures on the way, at most one more than the depth, so at most 17. Assumes nothing.
+-- has one path; it ends in a coded picture's pixel or an overlay's fill, none of the pictures on the way nor anything
+-- that they name is missing, and `trace` tells that end and the number of these pictures, at most one more than the
+-- depth, so at most 17. Assumes nothing.
 use Prim.Native.Nat.{ℕ, _+_, _≤_}
 use native.Mathlib.Omega.{arith}
 use mathlib.Core.Path.{_≡_, refl, sym, ap, _∙_}
@@ -34,7 +35,9 @@ use Rattle.asked.proofs.PicturedLaws.{picture-listed}
 use Rattle.faults.specs.Good.{GoodFile}
 use Rattle.faults.proofs.JudgedLaws.{good-judged}
 use Rattle.demands.specs.Call.{IsPicture, shownAs}
+use Rattle.demands.specs.Met.{stopsOf, MeetsOnly}
 use Rattle.demands.proofs.AskedLaws.{pictured-is}
+use Rattle.demands.proofs.MetLaws.{path-met, stops-counted}
 use Rattle.demands.proofs.Demand2.{trace-good}
 
 module _ (head : List ℕ) (total : ℕ) (table : List ℕ) (enough : 11280 ≤ length table) (f : File) (good : GoodFile total head f) (id : ℕ) (p : Point) where
@@ -50,6 +53,8 @@ module _ (head : List ℕ) (total : ℕ) (table : List ℕ) (enough : 11280 ≤ 
     pub path : Path s row p passed end
     pub only : (k : ℕ) (e : End) → Path s row p k e → (end ≡ e) × (passed ≡ k)
     pub ends : Ends s end
+    pub met : MeetsOnly f path
+    pub met-each : length (stopsOf path) ≡ passed
     pub few : passed ≤ depth s row + 1
     pub at-most-17 : passed ≤ 17
     pub told : r ≡ toldTraced (ok (foundBy f passed end))
@@ -83,6 +88,8 @@ module _ (head : List ℕ) (total : ℕ) (table : List ℕ) (enough : 11280 ≤ 
           path = x .path;
           only = λ k e w. one-path (x .path) w;
           ends = path-ends (x .path);
+          met = path-met total head f good (x .path);
+          met-each = stops-counted (x .path);
           few = x .short;
           at-most-17 = y .1;
           told = trace-good head total table enough f good id p r left g .0 ∙

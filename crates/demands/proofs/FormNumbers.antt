@@ -1,15 +1,29 @@
--- The forms of the contents refuse by `readingNumbers` only, and at their box, line by line of each form's block.
+-- The forms of the contents refuse by `boxPlaced` only, and at their box, line by line of each form's block.
 -- Assumes nothing.
 --   Reads f       whatever the form f reads, it refuses by such numbers only, at the place that it is given
-use Prim.Native.Nat.{ℕ, zero, suc, _+_, _-_, _≤_}
+use Prim.Native.Nat.{ℕ, zero, suc, _+_, _-_}
 use native.Mathlib.Omega.{arith}
-use mathlib.Core.Path.{_≡_, refl, ap}
-use mathlib.Core.List.{List, [], _∷_}
+use mathlib.Core.Path.{_≡_, refl, ap, subst}
+use mathlib.Core.List.{List, [], _∷_, _++_}
 use mathlib.Core.Bool.{Bool, true, false}
 use lib.ListN.{length, length-append}
 use lib.Dec.{leb}
 use Rattle.boxes.specs.Answer.{Answer, ok, refuse}
-use Rattle.forms.specs.Form.{Form, Got, give, demandOf, demand, fieldBy, field, onto, many, finish, whole, valueOf, front}
+use Rattle.forms.specs.Form.{
+  Form,
+  Got,
+  give,
+  demandOf,
+  demand,
+  fieldBy,
+  field,
+  onto,
+  many,
+  finish,
+  whole,
+  valueOf,
+  front,
+}
 use Rattle.forms.specs.Form as F
 use Rattle.forms.specs.Lead.{leadBy, lead}
 use Rattle.contents.specs.Full.{full}
@@ -20,11 +34,13 @@ use Rattle.contents.specs.Iloc.{Extent, Location, extent-form, entry-form, iloc
 use Rattle.contents.specs.Ipco.{ispe-form, bytes-form}
 use Rattle.contents.specs.Ipma.{Association, Named, association-form, named-form, ipma-form}
 use Rattle.contents.specs.Iref.{Derivation, target-form, reference-form}
-use Rattle.demands.proofs.NumberLaws.{Only, only-more, only-ok, only-refuse, Reading, Inside, inside}
+use Rattle.demands.specs.Numbers.{Among}
+use Rattle.demands.specs.Places.{boxPlaced, Content, BoxAt}
+use Rattle.demands.proofs.NumberLaws.{Only, only-more, only-ok, only-refuse, Placed, at-box}
 
 -- at the box
 pub record At (box n p : ℕ) : Type 0 where
-  pub number : Reading n
+  pub number : Among boxPlaced n
   pub place : p ≡ box
 
 pub record Reads {A : Type 0} (f : Form A) : Type 0 where
@@ -34,12 +50,12 @@ gives : {A : Type 0} (v : A) → Reads (give v)
 unfolding give
 gives v = record { by = λ p s. only-ok }
 
-demand-by : (n : ℕ) (t : Bool) → Reading n → (p : ℕ) (s : List ℕ) → Only (At p) (demandOf t n p s)
+demand-by : (n : ℕ) (t : Bool) → Among boxPlaced n → (p : ℕ) (s : List ℕ) → Only (At p) (demandOf t n p s)
 unfolding demandOf
 demand-by n true h p s = only-ok
 demand-by n false h p s = only-refuse (record { number = h; place = refl })
 
-demands : (n : ℕ) (t : Bool) → Reading n → Reads (demand n t)
+demands : (n : ℕ) (t : Bool) → Among boxPlaced n → Reads (demand n t)
 unfolding demand
 demands n t h = record { by = demand-by n t h }
 
@@ -52,7 +68,8 @@ fields : (n : ℕ) → Reads (field n)
 unfolding field
 fields n = record { by = λ p s. field-by (leb n (length s)) n p s }
 
-onto-by : {A B : Type 0} (f : Form A) (g : A → Form B) → ((a : A) → Reads (g a)) → (p : ℕ) (m : Answer (Got A)) → Only (At p) m → Only (At p) (onto f g p m)
+onto-by : {A B : Type 0} (f : Form A) (g : A → Form B) → ((a : A) → Reads (g a)) → (p : ℕ) (m : Answer (Got A)) →
+    Only (At p) m → Only (At p) (onto f g p m)
 unfolding onto
 onto-by f g k p (ok r) x = k (r .value) .by p (r .rest)
 onto-by f g k p (refuse n q) x = only-refuse (x .by n q refl)
@@ -65,49 +82,56 @@ _>>=_ {A} {B} {f} {g} h k = record { by = λ p s. onto-by f g k p (f .read p s) 
 _>>_ : {A B : Type 0} {f : Form A} {g : Form B} → Reads f → Reads g → Reads (F._>>_ f g)
 h >> k = h >>= (λ a. k)
 
-manys : {X : Type 0} {f : List X → Form X} → ((before : List X) → Reads (f before)) → (n : ℕ) (before : List X) → Reads (many f n before)
+manys : {X : Type 0} {f : List X → Form X} → ((before : List X) → Reads (f before)) → (n : ℕ) (before : List X) →
+    Reads (many f n before)
 unfolding many
 manys h zero before = gives before
 manys h (suc n) before = h before >>= (λ x. manys h n _)
 
 -- a content that is read whole, in front, or before boxes
-module _ {A : Type 0} {f : Form A} (h : Reads f) {most : ℕ} (p : ℕ) (s : List ℕ) (k : p ≤ most) where
-  form-only : Only (Inside most) (f .read p s)
-  form-only = only-more (λ n q x. inside (x .number) (rw (x .place) k)) (h .by p s)
+module _ {A : Type 0} {f : Form A} (h : Reads f) {total : ℕ} {head : List ℕ} (p : ℕ) (s : List ℕ)
+    (k : BoxAt total head p) where
+  form-only : Only (Placed total head) (f .read p s)
+  form-only = only-more (λ n q x. at-box (x .number) (rw (x .place) k)) (h .by p s)
 
-  finish-by : (m : Answer (Got A)) → Only (Inside most) m → Only (Inside most) (finish p m)
+  finish-by : (m : Answer (Got A)) → Only (Placed total head) m → Only (Placed total head) (finish p m)
   unfolding finish
   finish-by (refuse n q) x = only-refuse (x .by n q refl)
   finish-by (ok r) x = by (r .rest)
     where
-      by : (t : List ℕ) → Only {A = A} (Inside most) (elim t [ [] ↦ ok (r .value) | y ∷ ys ↦ refuse 8 p ])
+      by : (t : List ℕ) → Only {A = A} (Placed total head) (elim t [ [] ↦ ok (r .value) | y ∷ ys ↦ refuse 8 p ])
       by [] = only-ok
-      by (y ∷ ys) = only-refuse (inside refl k)
+      by (y ∷ ys) = only-refuse (at-box refl k)
 
-  pub whole-only : Only (Inside most) (whole f p s)
+  pub whole-only : Only (Placed total head) (whole f p s)
   unfolding whole
   whole-only = finish-by _ form-only
 
-  value-by : (m : Answer (Got A)) → Only (Inside most) m → Only (Inside most) (valueOf m)
+  value-by : (m : Answer (Got A)) → Only (Placed total head) m → Only (Placed total head) (valueOf m)
   unfolding valueOf
   value-by (refuse n q) x = only-refuse (x .by n q refl)
   value-by (ok r) x = only-ok
 
-  pub front-only : Only (Inside most) (front f p s)
+  pub front-only : Only (Placed total head) (front f p s)
   unfolding front
   front-only = value-by _ form-only
 
-  module _ {B : Type 0} {g : A → ℕ → List ℕ → Answer B} (at : ℕ) (l : at + length s ≤ most)
-      (go : (a : A) (b : ℕ) (r : List ℕ) → b + length r ≤ most → Only (Inside most) (g a b r)) where
-    lead-by : (m : Answer (Got A)) → f .read p s ≡ m → Only (Inside most) m → Only (Inside most) (leadBy g at s m)
+  -- the fields are those in front of a content, which begins behind them
+  module _ {B : Type 0} {g : A → ℕ → List ℕ → Answer B} {kind : ℕ} (at : ℕ)
+      (into : (u r : List ℕ) (v : A) → u ++ r ≡ s → f .Spells u v → Content total head kind (at + length u) r)
+      (go : (a : A) (b : ℕ) (r : List ℕ) → Content total head kind b r → Only (Placed total head) (g a b r)) where
+    lead-by : (m : Answer (Got A)) → f .read p s ≡ m → Only (Placed total head) m →
+        Only (Placed total head) (leadBy g at s m)
     unfolding leadBy
     lead-by (ok r) e x =
         let y = f .sound p s (r .value) (r .rest) e in
         let z = rw length-append at (ap length (y .1)) in
-        go (r .value) (at + (length s - length (r .rest))) (r .rest) (omega arith)
+        let i : at + length (y .0) ≡ at + (length s - length (r .rest)) = omega arith in
+        go (r .value) (at + (length s - length (r .rest))) (r .rest)
+        (subst (λ (j : ℕ). Content total head kind j (r .rest)) i (into (y .0) (r .rest) (r .value) (y .1) (y .2)))
     lead-by (refuse n q) e x = only-refuse (x .by n q refl)
 
-    pub lead-only : Only (Inside most) (lead g f p at s)
+    pub lead-only : Only (Placed total head) (lead g f p at s)
     unfolding lead
     lead-only = lead-by _ refl form-only
 
@@ -236,7 +260,8 @@ target-reads ids bytes before = do
   demands 11 _ refl
   gives _
 
-pub reference-reads : (ids : List ℕ) (bytes : ℕ) (isDimg : Bool) (before : List Derivation) → Reads (reference-form ids bytes isDimg before)
+pub reference-reads : (ids : List ℕ) (bytes : ℕ) (isDimg : Bool) (before : List Derivation) →
+    Reads (reference-form ids bytes isDimg before)
 unfolding reference-form
 reference-reads ids bytes isDimg before = do
   id ← fields _

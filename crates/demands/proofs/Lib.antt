@@ -1,6 +1,8 @@
 pub mod Once
 pub mod FaceOnce
 pub mod ToldLaws
+pub mod PlaceLaws
+pub mod Apart
 pub mod NumberLaws
 pub mod FormNumbers
 pub mod ReadNumbers
@@ -8,6 +10,7 @@ pub mod Numbers
 pub mod AskedLaws
 pub mod Demand1
 pub mod Demand2
+pub mod MetLaws
 pub mod Demand3
 pub mod Facing
 pub mod OutcomeLaws

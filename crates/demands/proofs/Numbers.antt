@@ -1,7 +1,8 @@
 -- Demand 1, "a numbered refusal": document 01, "Refusal numbers". Each stage and each question is refused only by the
--- numbers that the table gives to it (specs/Numbers.antt). Assumes nothing.
+-- numbers that the table gives to it (specs/Numbers.antt), and reading at the places that it gives to them
+-- (specs/Places.antt). Assumes nothing.
 --   words    the length of the table that is lent
-use Prim.Native.Nat.{ℕ, _≤_}
+use Prim.Native.Nat.{ℕ, _+_, _≤_}
 use mathlib.Core.Path.{_≡_, refl}
 use mathlib.Core.List.{List}
 use mathlib.Core.Bool.{true}
@@ -28,14 +29,18 @@ use Rattle.demands.specs.Numbers.{
   orientationNumbers,
   transformsNumbers,
 }
+use Rattle.demands.specs.Places.{zeroPlaced, boxPlaced, BoxAt}
+use Rattle.demands.proofs.PlaceLaws.{box-room}
 use Rattle.demands.proofs.NumberLaws.{
   Only,
-  Inside,
   only-ok,
   only-check,
   only-more,
   within,
   among-more,
+  placed-number,
+  placed-where,
+  placed-room,
   _>>=_,
   _>>_,
 }
@@ -56,11 +61,19 @@ module _ (list : List ℕ) (f : File) (id : ℕ) (h : Among list 21) where
 
 module _ (total : ℕ) (head : List ℕ) where
   pub reading-number : (n p : ℕ) → readFile total head ≡ refuse n p → Among readingNumbers n
-  reading-number n p e = read-only total head .by n p e .number
+  reading-number n p e = placed-number (read-only total head .by n p e)
 
-  -- the place of 2 to 11: 0, or "the offset in the head of the innermost box concerned"
-  pub reading-place : (n p : ℕ) → readFile total head ≡ refuse n p → p ≤ length head
-  reading-place n p e = read-only total head .by n p e .place
+  -- the column "Place" of 2 to 11: 0, or a box
+  pub reading-place : (n p : ℕ) → readFile total head ≡ refuse n p →
+      (Among zeroPlaced n → p ≡ 0) × (Among boxPlaced n → BoxAt total head p)
+  reading-place n p e = placed-where (read-only total head .by n p e)
+
+  -- a box begins, header and all, within the head
+  pub box-in-head : (p : ℕ) → BoxAt total head p → p + 8 ≤ length head
+  box-in-head p b = box-room b
+
+  pub reading-in-head : (n p : ℕ) → readFile total head ≡ refuse n p → p ≤ length head
+  reading-in-head n p e = placed-room (read-only total head .by n p e)
 
   fault-number : (f : File) (k : Number) → Among judgingNumbers (ruleOf total head f k .number)
   fault-number f n12 = refl

@@ -1,4 +1,6 @@
 pub mod Call
 pub mod Numbers
+pub mod Places
 pub mod Outcome
 pub mod Example
+pub mod Met

@@ -14,7 +14,7 @@ use Rattle.rules.specs.Words.{wordsOf}
 use Rattle.questions.specs.Questions.{partOf}
 use Rattle.views.specs.View.{TableOf}
 use Rattle.views.proofs.TableLaws.{property-none, property-some}
-use Rattle.views.proofs.ViewLaws.{words-offset}
+use Rattle.views.proofs.StandLaws.{part-offset}
 use Rattle.out.specs.Out.{outPart}
 
 -- outPart of the property with index k
@@ -24,13 +24,6 @@ part-none pl f k e = rw (property-none f k e, pick-yes 0 (pl .properties + _) (e
 
 module _ (total : ℕ) (head x t : List ℕ) (f : File) (w : t ≡ wordsOf total head f ++ x)
     (v : TableOf t head (placesIn total head) f) (k : ℕ) (h : k ≤ length (f .properties)) (some : k ≡ 0 → ⊥) where
-  part-offset : getD t (4112 + 4 * (k - 1) + 1) 0 ≡ propertyOffset (placesIn total head) f k
-  part-offset =
-      let e : k - 1 + 1 ≡ k = omega arith in
-      ap (λ (u : List ℕ). getD u (4112 + 4 * (k - 1) + 1) 0) w
-      ∙ words-offset total head f x (v .bounded) (k - 1) (omega arith)
-      ∙ ap (propertyOffset (placesIn total head) f) e
-
   part-length : getD t (4112 + 4 * (k - 1) + 2) 0 ≡ length (propertyAt f k)
   part-length =
       let l : k - 1 < length (f .properties) = omega arith in
@@ -40,4 +33,4 @@ module _ (total : ℕ) (head x t : List ℕ) (f : File) (w : t ≡ wordsOf total
   pub part-some : (o n : ℕ) → o ≡ getD t (4112 + 4 * (k - 1) + 1) 0 → n ≡ getD t (4112 + 4 * (k - 1) + 2) 0
       → (0 ∷ 0 ∷ o ∷ n ∷ 0 ∷ 0 ∷ 0 ∷ 0 ∷ []) ≡ outPart (ok (partOf (placesIn total head) f k))
   unfolding outPart partOf
-  part-some o n eo en = let i = eo ∙ part-offset in let j = en ∙ part-length in rw (i, j)
+  part-some o n eo en = let i = eo ∙ part-offset total head x t f w v k h some in let j = en ∙ part-length in rw (i, j)

@@ -19,20 +19,23 @@ use Rattle.boxes.specs.declared.Refusal.{Refusal}
 use Rattle.contents.specs.Iinf.{Item, idsOf}
 use Rattle.contents.specs.File.{File}
 use Rattle.rules.specs.Joined.{associationsOf, propertyAt, rowOf, noItem, noAssociation}
-use Rattle.rules.specs.Places.{Places, placesIn}
+use Rattle.rules.specs.Places.{Places, placesIn, propertyOffset}
 use Rattle.rules.specs.Opening.{opened, listed}
-use Rattle.questions.specs.Questions.{partOf, propertyIn, property}
+use Rattle.questions.specs.Questions.{Part, partOf, propertyIn, property}
 use Rattle.records.specs.declared.FoundRow.{FoundRow}
 use Rattle.records.specs.declared.FoundRow.the-variants.{At, Nothing}
 use Rattle.views.specs.View.{TableOf, idOf}
 use Rattle.views.specs.Told.{toldRow}
 use Rattle.views.proofs.LookupLaws.{found}
+use Rattle.views.specs.Lies.{LiesAt}
+use Rattle.views.proofs.TableLaws.{property-none}
 use Rattle.opening.specs.Told.{toldOpened}
 use Rattle.opening.specs.declared.Opened.the-variants as opens
 use Rattle.opening.proofs.FileLaws.{opened-refused}
 use Rattle.asked.specs.Told.{indexIn, toldAsked}
 use Rattle.asked.specs.declared.PropertyAsked.the-variants as asked
 use Rattle.still.specs.Told.{indexOf, toldPart, toldFault}
+use Rattle.still.specs.Given.{PartPlaced}
 
 -- toldAsked
 asked-refused : (m : Answer ℕ) (y : Refusal) → toldAsked m ≡ asked.Refused y → m ≡ refuse (y .number) (y .place)
@@ -103,6 +106,22 @@ module _ (total : ℕ) (head t : List ℕ) (id k : ℕ) where
         ((0 ∷ 0 ∷ []) ≡ toldFault (property (length t) total head id k))
     unfolding toldPart toldFault partOf
     property-on = (rw property-is, rw property-is)
+
+    -- PartPlaced
+    pub property-placed : (base place : ℕ × ℕ) →
+        ((i ≡ 0 → ⊥) → LiesAt base (propertyOffset (placesIn total head) f i) place) → PartPlaced head total t base place id k
+    unfolding partOf
+    property-placed base place lies p q some =
+        let z : partOf (placesIn total head) f i ≡ p = ok-inj _ _ (sym property-is ∙ q) in
+        subst (λ (r : Part). LiesAt base (r .offset) place) z
+        (lies (λ n. some (ap (λ (r : Part). r .bytes) (sym z) ∙ property-none f i n)))
+
+  pub property-nowhere : (y : Refusal) → toldAsked (indexOf (length t) total head id k) ≡ asked.Refused y →
+      (base place : ℕ × ℕ) → PartPlaced head total t base place id k
+  property-nowhere y e base place p q some = never (sym (property-refused y e) ∙ q)
+    where
+      never : refuse (y .number) (y .place) ≡ ok p → LiesAt base (p .offset) place
+      never a = let z : _≡_ {A = ℕ} 0 1 = cc in absurd (omega arith)
 
   -- which property is asked for
   pub asked-off : (y : Refusal) → toldOpened (opened (length t) total head) ≡ opens.Refused y → asked.Refused y ≡ toldAsked (indexOf (length t) total head id k)

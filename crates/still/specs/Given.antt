@@ -1,17 +1,19 @@
 -- What each public function promises, whole: for all heads, totals, tables, lists and numbers asked, the answer and
 -- every word that is left. The contracts cite these.
 --   VerdictGiven, SizeGiven, TraceGiven, SourcesGiven, OrientationGiven, AskedGiven, PropertyGiven, and TransformsGiven,
---   which reads no file
+--   which reads no file;   PartPlaced, where a part that is returned lies
 -- In each, r is what is returned, `left` the table afterwards, and `list` what was lent beside it, before and after,
 -- and `told` the two numbers that carry a refusal.
 use Prim.Native.Nat.{ℕ}
 use mathlib.Core.Path.{_≡_}
-use mathlib.Core.List.{List}
+use mathlib.Core.List.{List, []}
 use lib.ListN.{length}
+use Rattle.boxes.specs.Answer.{ok}
 use Rattle.pictures.specs.declared.Point.{Point}
 use Rattle.rules.specs.Opening.{after}
 use Rattle.questions.specs.Questions.{listAfter}
 use Rattle.questions.specs.Questions as Q
+use Rattle.views.specs.Lies.{LiesAt}
 use Rattle.asked.specs.declared.FileVerdict.{FileVerdict}
 use Rattle.asked.specs.declared.Sized.{Sized}
 use Rattle.asked.specs.declared.PropertyAsked.{PropertyAsked}
@@ -51,6 +53,12 @@ module _ (head : List ℕ) (total : ℕ) (table : List ℕ) where
   PropertyGiven id k part told left =
       (part ≡ toldPart (Q.property (length table) total head id k))
       × ((told ≡ toldFault (Q.property (length table) total head id k)) × (left ≡ after total head table))
+
+  -- "as a part of the head": where the head points to and where the part does. It is the box that was asked for, not a
+  -- like one that lies elsewhere in the head. (Of an empty part nothing is said.)
+  abbrev pub PartPlaced : ℕ × ℕ → ℕ × ℕ → ℕ → ℕ → Type 0
+  PartPlaced base place id k = (p : Q.Part) → Q.property (length table) total head id k ≡ ok p → (p .bytes ≡ [] → ⊥) →
+      LiesAt base (p .offset) place
 
 abbrev pub TransformsGiven : ℕ → TransformList → Type 0
 TransformsGiven n r = r ≡ toldTransforms (transformsIn n)

@@ -10,6 +10,7 @@ ghost use Rattle.still.specs.Given.{
   TransformsGiven,
   AskedGiven,
   PropertyGiven,
+  PartPlaced,
 };
 use asked::FileVerdict;
 use asked::PropertyAsked;
@@ -114,6 +115,7 @@ pub fn property<'a>(
 ) -> &'a [u8]
     ensures { λ r. ⌜ PropertyGiven (now (head .entry)) total (now (table .entry)) (id .0) k (now r) (now (told .exit))
         (now (table .exit)) ⌝ }
+    ensures { λ r. ⌜ PartPlaced (now (head .entry)) total (now (table .entry)) (head .entry .ptr) (r .ptr) (id .0) k ⌝ }
 {
     let a = property_asked(head, total, table, id, k);
     match a {

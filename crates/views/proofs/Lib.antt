@@ -9,3 +9,4 @@ pub mod SoundLaws
 pub mod LocatedLaws
 pub mod ViewLaws
 pub mod FillLaws
+pub mod StandLaws

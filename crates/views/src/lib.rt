@@ -1,17 +1,18 @@
 // A table that was read, seen item by item. Nothing here can be asked for what is not there: what is past an end reads as 0 or nothing.
 ghost use mathlib.Core.Path.{_≡_};
-ghost use mathlib.Core.List.{List, []};
+ghost use mathlib.Core.List.{List, [], _++_};
 ghost use Prim.Native.Nat.{ℕ, _+_, _*_, _%_, _≤_, _<_};
 ghost use lib.ListN.{length, getD, take, drop};
 ghost use Rattle.boxes.specs.Types.{coded, derived, image};
 ghost use Rattle.boxes.specs.Box.{kindOf, bodyOf};
 ghost use Rattle.contents.specs.File.{File};
-ghost use Rattle.rules.specs.Places.{Places, fileOffset};
+ghost use Rattle.rules.specs.Places.{Places, placesIn, propertyOffset, fileOffset};
 ghost use Rattle.rules.specs.Joined.{associationsOf, targetsOf, locationOf, propertyAt, noAssociation};
-ghost use Rattle.rules.specs.Words.{associationWord};
+ghost use Rattle.rules.specs.Words.{associationWord, wordsOf};
 ghost use Rattle.records.specs.Raw.{capped};
 ghost use Rattle.views.specs.View.{TableOf, recordWord, idOf, noExtent};
 ghost use Rattle.views.specs.Told.{toldRow};
+ghost use Rattle.views.specs.Lies.{LiesAt};
 use records::FoundRow;
 use table::ItemId;
 use table::ItemRow;
@@ -170,10 +171,11 @@ pub fn property_type(table: &[u32], index: PropertyIndex) -> u32
     0
 }
 
-// n bytes of s from a place on, or nothing where they are not there.
+// n bytes of s from a place on, or nothing where they are not there. The part is that of s, not a like one elsewhere.
 pub fn part(s: &[u8], at: usize, n: usize) -> &[u8]
     ensures { λ r. ⌜ (at + n ≤ length (now (s .entry)) → now r ≡ take n (drop at (now (s .entry)))) ⌝ }
     ensures { λ r. ⌜ (length (now (s .entry)) < at + n → now r ≡ []) ⌝ }
+    ensures { λ r. ⌜ (at + n ≤ length (now (s .entry)) → LiesAt (s .entry .ptr) at (r .ptr)) ⌝ }
 {
     if at <= s.len() {
         if n <= s.len() - at {
@@ -188,6 +190,11 @@ pub fn part(s: &[u8], at: usize, n: usize) -> &[u8]
 pub fn property_box<'a>(head: &'a [u8], table: &[u32], index: PropertyIndex) -> &'a [u8]
     ensures { λ r. ⌜ ((pl : Places) (f : File) → TableOf (now (table .entry)) (now (head .entry)) pl f →
         index .0 ≤ length (f .properties) → now r ≡ propertyAt f (index .0)) ⌝ }
+    ensures { λ r. ⌜ ((total : ℕ) (x : List ℕ) (f : File) →
+        now (table .entry) ≡ wordsOf total (now (head .entry)) f ++ x →
+        TableOf (now (table .entry)) (now (head .entry)) (placesIn total (now (head .entry))) f →
+        index .0 ≤ length (f .properties) → (index .0 ≡ 0 → ⊥) →
+        LiesAt (head .entry .ptr) (propertyOffset (placesIn total (now (head .entry))) f (index .0)) (r .ptr)) ⌝ }
 {
     let k = index.0;
     if k == 0 {

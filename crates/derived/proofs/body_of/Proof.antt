@@ -9,7 +9,7 @@ returns : tie.Need-returns
 returns c =
     let c2 = c .before .before in let c3 = c2 .before in let c6 = c3 .before .before .before in
     λ total pl f v h placed. body-here v total (c6 .args .row .0) h placed (omega arith) _ (c3 .record-word .ensures)
-    (c2 .if1 .taken) _ _ (c .before .extent-of .ensures _ pl f v h) _ (c .part .ensures .0) (c .part .ensures .1)
+    (c2 .if1 .taken) _ _ (c .before .extent-of .ensures _ pl f v h) _ (c .part .ensures .0) (c .part .ensures .1 .0)
 
 returns-2 : tie.Need-returns-2
 returns-2 c =
