@@ -1,7 +1,5 @@
 -- There is such a file: document 01's own file keeps the rules, and the questions answer it by computation. Assumes nothing.
-use Prim.Native.Nat.{ℕ}
-use native.Mathlib.Omega.{arith}
-use mathlib.Core.Path.{_≡_, refl, sym, _∙_}
+use mathlib.Core.Path.{_≡_, refl}
 use mathlib.Core.List.{List}
 use mathlib.Core.Bool.{false}
 use Rattle.fields.specs.Choice as FieldsChoice
@@ -37,6 +35,7 @@ use Rattle.rules.specs.Places as RulesPlaces
 use Rattle.rules.specs.Opening as RulesOpening
 use Rattle.questions.specs.Questions as Q
 use Rattle.rules.specs.Rules as RulesRules
+use Rattle.boxes.proofs.AnswerLaws.{bind-ok, then-ok}
 use Rattle.faults.specs.Good.{GoodFile}
 use Rattle.faults.proofs.GoodLaws.{accepted-good}
 use Rattle.demands.specs.Example.{own}
@@ -90,38 +89,9 @@ unfolding FieldsChoice.pick FieldsField.beAt BoxesAnswer._>>=_ BoxesAnswer._>>_ 
     RulesRules.rule18 RulesRules.rule19 RulesRules.rule20 RulesRules.byDepth RulesRules.judged
 own-answers = (refl, refl, refl, refl)
 
--- it is a file that keeps the rules
+-- it is a file that keeps the rules: its verdict is an answer
 pub own-good : (f : ContentsFile.File) × GoodFile 369 own f
-unfolding FieldsChoice.pick FieldsField.beAt BoxesAnswer._>>=_ BoxesAnswer._>>_ BoxesAnswer.check BoxesBox.headOf
-    BoxesBox.sizeOf BoxesBox.starts BoxesBox.flat BoxesBox.cutBy BoxesBox.cutN BoxesBox.cut BoxesChildren.gather
-    BoxesChildren.noRest BoxesChildren.contain BoxesChildren.ofKind BoxesChildren.once BoxesChildren.firstOr
-    BoxesChildren.placeOf BoxesExactly.ended BoxesExactly.oneBy BoxesExactly.exactly BoxesTop.fit BoxesTop.look
-    BoxesTop.words BoxesTop.branded BoxesTop.byKind BoxesTop.byLook BoxesTop.walkN BoxesTop.byFirst BoxesTop.metaIn
-    FormsForm.give FormsForm.demandOf FormsForm.demand FormsForm.fieldBy FormsForm.field FormsForm.onto FormsForm._>>=_
-    FormsForm.many FormsForm.finish FormsForm.whole FormsForm.valueOf FormsForm.front FormsLead.leadBy FormsLead.lead
-    ContentsFile.referred ContentsFile.dataOf ContentsFile.contentsOf ContentsFile.fileOf ContentsFile.readFile
-    ContentsFull.full ContentsHdlr.hdlr-form ContentsIinf.infe-form ContentsIinf.infe-step ContentsIinf.iinf-count
-    ContentsIinf.items ContentsIloc.extentsIn ContentsIloc.extent-form ContentsIloc.entry-form ContentsIloc.iloc-form
-    ContentsIpco.ispe-form ContentsIpco.bytes-form ContentsIpco.held ContentsIpco.property ContentsIpma.associationsIn
-    ContentsIpma.association-form ContentsIpma.named-form ContentsIpma.ipma-form ContentsIprp.pairOf ContentsIprp.shown
-    ContentsIref.targetsIn ContentsIref.target-form ContentsIref.reference-form ContentsIref.reference
-    ContentsIref.references ContentsPitm.pitm-form PicturesDecode.rotation PicturesDecode.mirror PicturesDecode.turnOf
-    PicturesDecode.turnsOf PicturesDepth.reaches PicturesDepth.largest PicturesDepth.depthBy PicturesDepth.depthN
-    PicturesRecipe.grid-form PicturesRecipe.offset-form PicturesRecipe.iovl-form PicturesScene.outputOf
-    PicturesScene.allSize PicturesScene.madeUp PicturesScene.goodSizes PicturesSources.neededOf PicturesTrace.tileAt
-    PicturesTrace.layerAt PicturesTrace.sourceBy PicturesTrace.follow PicturesTrace.traced PicturesTurn.sizeAfter
-    PicturesTurn.back PicturesTurn.sizeThrough PicturesTurn.undone RulesBytes.allExtents RulesBytes.bodyBy
-    RulesDerivations.allImages RulesDerivations.copyOf RulesDerivations.tilesOf RulesDerivations.layersOf
-    RulesDerivations.recipeFor RulesDerivations.asRule17 RulesDerivations.recipeOr RulesDerivations.declaredIn
-    RulesDerivations.pictureOf RulesJoined.locatedAt RulesJoined.namedFor RulesJoined.derivedFrom RulesJoined.propertyAt
-    RulesJoined.rowOf RulesPlaces.placesAt RulesPlaces.placesBy RulesPlaces.propertyOffset RulesPlaces.fileOffset
-    RulesOpening.accepted RulesOpening.opened RulesOpening.listed RulesOpening.pictured Q.verdictIn Q.sizeIn Q.foundBy
-    Q.traceIn Q.sourcesIn Q.partOf Q.propertyIn Q.verdict Q.size Q.trace Q.sources Q.property Q.listAfter
-    RulesOpening.leftBy RulesOpening.after RulesRules.inOrder RulesRules.essentialKnown RulesRules.countOf
-    RulesRules.ispeBefore RulesRules.rule12 RulesRules.rule13-14 RulesRules.rule15-16 RulesRules.rule17
-    RulesRules.rule18 RulesRules.rule19 RulesRules.rule20 RulesRules.byDepth RulesRules.judged
-own-good = by (RulesOpening.accepted 369 own) refl
-  where
-    by : (m : BoxesAnswer.Answer ContentsFile.File) → RulesOpening.accepted 369 own ≡ m → (f : ContentsFile.File) × GoodFile 369 own f
-    by (BoxesAnswer.ok f) e = (f, accepted-good 369 own f e)
-    by (BoxesAnswer.refuse n p) e = let z : _≡_ {A = ℕ} 0 1 = cc in absurd (omega arith)
+unfolding Q.verdict RulesOpening.opened
+own-good =
+    let opened = bind-ok _ _ _ (own-answers .0) in
+    (opened .0, accepted-good 369 own (opened .0) (then-ok _ _ (opened .0) (opened .1) .2))

@@ -1,7 +1,10 @@
 -- Demand 1 as one alternative: every call, on any bytes, answers or refuses by number and place.
 --   Outcome .. r left      a call that returns r and leaves the table `left`: answered, and then the file keeps the rules
 --                          and r tells the answer; or refused, and then `Call` says why
---   Refuses .. r           the other way: each reason of `Call` makes the call return just its number and place
+--   Refuses .. r left      the other way: each reason of `Call` makes the call return just its number and place, and leave
+--                          just its table
+--   Decided .. r left      both. The second is said beside the first so that nobody has to see that the reasons of `Call`
+--                          exclude each other and an answer
 -- asked: what is asked of a file that keeps the rules; told: what an answer is for the caller, a value or eight numbers.
 use Prim.Native.Nat.{ℕ, _≤_}
 use mathlib.Core.Path.{_≡_}
@@ -23,6 +26,5 @@ module _ (head : List ℕ) (total : ℕ) (table : List ℕ) {A B : Type 0} (aske
   abbrev pub Refuses : B → List ℕ → Type 0
   Refuses r left = (n p : ℕ) (words : List ℕ) → Call head total table Unmet n p words → (r ≡ told (refuse n p)) × (left ≡ words)
 
-  -- answered or refused, and refused exactly for the reasons that `Call` names
   abbrev pub Decided : B → List ℕ → Type 0
   Decided r left = Outcome r left × Refuses r left
