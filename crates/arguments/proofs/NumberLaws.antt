@@ -11,7 +11,7 @@ use borrow.Author.Tests.{eq-eqb, ne-eqb, lt-ltb, le-ltb}
 use Rattle.fields.specs.Choice.{pick}
 use Rattle.fields.proofs.FieldLaws.{both}
 use Rattle.fields.proofs.TestLaws.{both-and}
-use Rattle.arguments.specs.Number.{digitOf, digits, value, numberOf}
+use Rattle.arguments.specs.inner.Number.{digitOf, digits, value, numberOf}
 use Rattle.arguments.specs.declared.Number.{Number}
 use Rattle.arguments.specs.declared.Number.the-variants.{Is, Bad}
 

@@ -10,7 +10,7 @@ use lib.Seq.{ext-getD}
 use native.Mathlib.Nat.{eq-or-lt-of-le}
 use borrow.Author.Tests.{eq-eqb, eqb-true}
 use Rattle.fields.proofs.TestLaws.{untrue, and-both, both-and}
-use Rattle.arguments.specs.Word.{same}
+use Rattle.arguments.specs.inner.Word.{same}
 
 -- words with the same bytes are one, and only they
 pub same-sound : (s t : List ℕ) → same s t ≡ true → s ≡ t

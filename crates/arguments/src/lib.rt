@@ -1,7 +1,7 @@
 // What the arguments of a program say: numbers, and the words of the questions.
 ghost use mathlib.Core.Path.{_≡_};
-ghost use Rattle.arguments.specs.Number.{digitOf, numberOf};
-ghost use Rattle.arguments.specs.Word.{same, wordOf, laterWordOf, numbersOf, mayBeAlone};
+ghost use Rattle.arguments.specs.inner.Number.{digitOf, numberOf};
+ghost use Rattle.arguments.specs.inner.Word.{same, wordOf, laterWordOf, numbersOf, mayBeAlone};
 
 pub enum Number {
     Is(u32),

@@ -18,8 +18,8 @@ use Rattle.rules.specs.Opening.{listed, pictured}
 use Rattle.questions.specs.Questions.{verdictIn, sizeIn}
 use Rattle.records.specs.declared.FoundRow.{FoundRow}
 use Rattle.records.specs.declared.FoundRow.the-variants.{At, Nothing}
-use Rattle.views.specs.View.{TableOf, idOf}
-use Rattle.views.specs.Told.{toldRow}
+use Rattle.views.specs.inner.View.{TableOf, idOf}
+use Rattle.views.specs.inner.Told.{toldRow}
 use Rattle.views.proofs.LookupLaws.{found}
 use Rattle.asked.specs.Told.{toldVerdict, toldPictured, toldSized, indexIn, toldAsked}
 use Rattle.asked.specs.declared.FileVerdict.the-variants as verdicts

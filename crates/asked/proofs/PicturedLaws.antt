@@ -22,8 +22,8 @@ use Rattle.rules.specs.Joined.{rowOf, noItem, itemAt}
 use Rattle.rules.specs.Opening.{listed, pictured}
 use Rattle.records.specs.declared.FoundRow.{FoundRow}
 use Rattle.records.specs.declared.FoundRow.the-variants.{At, Nothing}
-use Rattle.views.specs.View.{idOf}
-use Rattle.views.specs.Told.{toldRow}
+use Rattle.views.specs.inner.View.{idOf}
+use Rattle.views.specs.inner.Told.{toldRow}
 use Rattle.views.proofs.LookupLaws.{row-listed, found}
 use Rattle.asked.specs.Told.{toldPictured}
 use Rattle.asked.specs.declared.Pictured.the-variants as pictures

@@ -7,7 +7,7 @@ ghost use Rattle.rules.specs.Places.{Places};
 ghost use Rattle.rules.specs.Derivations.{sceneOf};
 ghost use Rattle.rules.specs.Opening.{pictured};
 ghost use Rattle.questions.specs.Questions.{verdictIn, sizeIn};
-ghost use Rattle.views.specs.View.{TableOf, SizesAre};
+ghost use Rattle.views.specs.inner.View.{TableOf, SizesAre};
 ghost use Rattle.asked.specs.Told.{toldVerdict, toldPictured, toldSized, indexIn, toldAsked};
 use boxes::Refusal;
 use records::FoundRow;

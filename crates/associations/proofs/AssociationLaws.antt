@@ -19,8 +19,8 @@ use Rattle.forms.proofs.StepLaws.{reads, read-reads, reads-bind, reads-field, r
 use Rattle.contents.specs.Ipma.{Association, markOf, association-form}
 use Rattle.records.proofs.SetsLaws.{sets-append}
 use Rattle.fields.proofs.TestLaws.{and-false, and-none}
-use Rattle.associations.specs.Told.{KeptIds}
-use Rattle.associations.specs.Steps.{wordsOf, AssociatedHere}
+use Rattle.associations.specs.inner.Told.{KeptIds}
+use Rattle.associations.specs.inner.Steps.{wordsOf, AssociatedHere}
 use Rattle.associations.proofs.KeepLaws.{sets-high}
 
 -- a word of w bytes and its mark

@@ -17,14 +17,14 @@ use Rattle.boxes.specs.declared.Refusal.{Refusal}
 use Rattle.forms.specs.Form.{Got, got, many}
 use Rattle.forms.proofs.StepLaws.{reads, read-reads, reads-got, reads-refused, reads-bind, reads-field, reads-short, reads-yes, reads-no, reads-give}
 use Rattle.contents.specs.Full.{idBytes}
-use Rattle.contents.specs.Ipma.{Association, Named, associationsIn, rises, association-form, named-form}
+use Rattle.contents.specs.Ipma.{Association, IpmaEntry, associationsIn, rises, association-form, ipma-entry-form}
 use Rattle.table.specs.declared.ItemRow.{ItemRow}
-use Rattle.records.specs.Rows.{idAt, idsIn, FoundIs}
+use Rattle.records.specs.inner.Rows.{idAt, idsIn, FoundIs}
 use Rattle.records.specs.declared.FoundRow.{FoundRow}
 use Rattle.records.specs.declared.FoundRow.the-variants as found
 use Rattle.records.proofs.IdLaws.{row-listed, found-row, found-none}
-use Rattle.associations.specs.Told.{KeptIds}
-use Rattle.associations.specs.Steps.{AssociatedHere, AssociatedIs, spanWords, list-form, ListedHere, ListedIs, Above, NamedHere}
+use Rattle.associations.specs.inner.Told.{KeptIds}
+use Rattle.associations.specs.inner.Steps.{AssociatedHere, AssociatedIs, spanWords, list-form, ListedHere, ListedIs, Above, NamedHere}
 use Rattle.associations.specs.declared.Associated.{Associated}
 use Rattle.associations.specs.declared.Associated.the-variants as associated
 use Rattle.associations.specs.declared.Listed.{Listed}
@@ -85,25 +85,25 @@ module _ (used most w p : ℕ) (s : List ℕ) (at : ℕ) where
               stored = q ∙ ap (λ (y : List ℕ). sets y (16 + 16 * row + 3) (spanWords used k)) (b .stored);
             }
 
--- named-form, at a place of the content, where an ID has `wide` bytes
-module _ (ids : List ℕ) (most v w : ℕ) (before : List Named) (p : ℕ) (s : List ℕ) (at wide : ℕ) (wide-is : wide ≡ idBytes v) (here : at ≤ length s) where
-  abbrev namedAnswer : Answer (Got Named)
-  namedAnswer = named-form ids most v w before .read p (drop at s)
+-- ipma-entry-form, at a place of the content, where an ID has `wide` bytes
+module _ (ids : List ℕ) (most v w : ℕ) (before : List IpmaEntry) (p : ℕ) (s : List ℕ) (at wide : ℕ) (wide-is : wide ≡ idBytes v) (here : at ≤ length s) where
+  abbrev namedAnswer : Answer (Got IpmaEntry)
+  namedAnswer = ipma-entry-form ids most v w before .read p (drop at s)
 
   named-short : length s - at < wide → namedAnswer ≡ refuse 8 p
-  unfolding named-form
+  unfolding ipma-entry-form
   named-short h = rw (read-reads, reads-bind, ← wide-is) (reads-short p s at wide _ here (omega arith))
 
   module _ (room : wide ≤ length s - at) (id : ℕ) (is : id ≡ beAt s at wide) where
     named-low : rises id before ≡ false → namedAnswer ≡ refuse 10 p
-    unfolding named-form
+    unfolding ipma-entry-form
     named-low h =
         rw (read-reads, reads-bind, ← wide-is)
         (reads-field p s at wide _ (omega arith) ∙ rw (reads-bind, ← is) (reads-no p (drop (at + wide) s) 10 _ _ h))
 
     module _ (up : rises id before ≡ true) where
       named-unlisted : member id ids ≡ false → namedAnswer ≡ refuse 11 p
-      unfolding named-form
+      unfolding ipma-entry-form
       named-unlisted h =
           rw (read-reads, reads-bind, ← wide-is)
           (reads-field p s at wide _ (omega arith)
@@ -112,7 +112,7 @@ module _ (ids : List ℕ) (most v w : ℕ) (before : List Named) (p : ℕ) (s : 
       -- then the count and the associations
       named-then : member id ids ≡ true → namedAnswer ≡ reads (list-form (associationsIn before) most w) p
           (drop (at + wide) s) (λ l r. got (record { id = id; list = l }) r)
-      unfolding named-form list-form
+      unfolding ipma-entry-form list-form
       named-then m =
           rw (read-reads, reads-bind, ← wide-is)
           (reads-field p s at wide _ (omega arith)
@@ -121,10 +121,10 @@ module _ (ids : List ℕ) (most v w : ℕ) (before : List Named) (p : ℕ) (s : 
 
 -- the same of a table t with n items, behind entries with `used` associations whose IDs are below `above`
 module _ (t : List ℕ) (n most v w p : ℕ) (s : List ℕ) (at above used wide : ℕ) (wide-is : wide ≡ idBytes v)
-    (here : at ≤ length s) (before : List Named) (total : associationsIn before ≡ used) (last : Above before above)
+    (here : at ≤ length s) (before : List IpmaEntry) (total : associationsIn before ≡ used) (last : Above before above)
   where
-    abbrev entryAnswer : Answer (Got Named)
-    entryAnswer = named-form (idsIn t n) most v w before .read p (drop at s)
+    abbrev entryAnswer : Answer (Got IpmaEntry)
+    entryAnswer = ipma-entry-form (idsIn t n) most v w before .read p (drop at s)
 
     pub entry-short : length s - at < wide → (entryAnswer ≡ refuse 8 p) × KeptIds t t
     entry-short h = (named-short (idsIn t n) most v w before p s at wide wide-is here h, kept-self t)

@@ -9,7 +9,7 @@ use lib.Seq.{sets, getD-set-other}
 use Rattle.records.proofs.SetsLaws.{sets-below}
 use Rattle.records.proofs.IdLaws.{ids-same}
 use Rattle.records.proofs.KeptLaws.{kept-same, kept-on, kept-sets}
-use Rattle.associations.specs.Told.{KeptIds}
+use Rattle.associations.specs.inner.Told.{KeptIds}
 
 -- KeptIds
 pub kept-self : (t : List ℕ) → KeptIds t t

@@ -33,24 +33,24 @@ use Rattle.forms.proofs.StepLaws.{
   over-left,
 }
 use Rattle.contents.specs.Full.{full, upto}
-use Rattle.contents.specs.Told.{toldFull}
+use Rattle.contents.specs.inner.Told.{toldFull}
 use Rattle.contents.specs.declared.FullRead.{FullRead}
 use Rattle.contents.specs.declared.FullRead.the-variants as fullread
 use Rattle.contents.proofs.FullLaws.{FullHere, full-here, full-gone}
 use Rattle.contents.specs.Iinf.{idsOf}
-use Rattle.contents.specs.Ipma.{Association, Named, associationsIn, rises, named-form, ipma-form}
+use Rattle.contents.specs.Ipma.{Association, IpmaEntry, associationsIn, rises, ipma-entry-form, ipma-form}
 use Rattle.contents.specs.File.{File}
 use Rattle.rules.specs.Places.{Places}
 use Rattle.table.specs.declared.ItemRow.{ItemRow}
-use Rattle.records.specs.Raw.{Bounded, rawOf}
-use Rattle.records.specs.Rows.{idAt, idsIn}
-use Rattle.records.specs.Stage.{Ready, withNames}
+use Rattle.records.specs.inner.Raw.{Bounded, rawOf}
+use Rattle.records.specs.inner.Rows.{idAt, idsIn}
+use Rattle.records.specs.inner.Stage.{Ready, withNames}
 use Rattle.records.proofs.MemberLaws.{member-other}
 use Rattle.records.proofs.SaidLaws.{namedIn}
 use Rattle.records.proofs.RawLaws.{raw-id, raw-named}
 use Rattle.contents.proofs.SumLaws.{associations-more}
-use Rattle.associations.specs.Told.{KeptIds, toldNames, NamesLeft}
-use Rattle.associations.specs.Steps.{wordsOf, spanWords, Above, NamedHere, NamedPutIs}
+use Rattle.associations.specs.inner.Told.{KeptIds, toldNames, NamesLeft}
+use Rattle.associations.specs.inner.Steps.{wordsOf, spanWords, Above, NamedHere, NamedPutIs}
 use Rattle.associations.specs.declared.NamedPut.{NamedPut}
 use Rattle.associations.specs.declared.NamedPut.the-variants as named
 use Rattle.associations.specs.declared.NamesRead.{NamesRead}
@@ -58,7 +58,7 @@ use Rattle.associations.specs.declared.NamesRead.the-variants as names
 use Rattle.associations.proofs.KeepLaws.{kept-self, kept-then, sets-high, sets-row}
 
 -- one entry more
-rises-more : (ns : List Named) (n : Named) (x : ℕ) → rises x (ns ++ (n ∷ [])) ≡ ltb (n .id) x
+rises-more : (ns : List IpmaEntry) (n : IpmaEntry) (x : ℕ) → rises x (ns ++ (n ∷ [])) ≡ ltb (n .id) x
 rises-more [] n x = refl
 rises-more (m ∷ []) n x = refl
 rises-more (m ∷ k ∷ ns) n x = rises-more (k ∷ ns) n x
@@ -71,7 +71,7 @@ next-above a x = go (ltb a x) refl
     go false e = let h = ltb-false a x e in sym (lt-leb (a + 1) x (omega arith))
 
 -- the table of a file with one entry more
-module _ (pl : Places) (f : File) (x : List ℕ) (n : ℕ) (ready : Ready f n) (entries : List Named) (t : List ℕ)
+module _ (pl : Places) (f : File) (x : List ℕ) (n : ℕ) (ready : Ready f n) (entries : List IpmaEntry) (t : List ℕ)
     (is : t ≡ rawOf [] pl (withNames f entries) ++ x) where
   raw-more : (used id row : ℕ) (list : List Association) → associationsIn entries ≡ used → used + length list ≤ 2048 →
       member id (namedIn entries) ≡ false → row < n → idAt t row ≡ id
@@ -95,12 +95,12 @@ module _ (pl : Places) (f : File) (x : List ℕ) (n : ℕ) (ready : Ready f n) (
       (record { id = id; list = list }) q new (omega arith)))
 
 -- NamesLeft, where m is refused
-pub names-gone : (m : Answer (List Named)) (n : ℕ) (t u : List ℕ) (a b : ℕ) → KeptIds t u → m ≡ refuse a b → NamesLeft m n t u
+pub names-gone : (m : Answer (List IpmaEntry)) (n : ℕ) (t u : List ℕ) (a b : ℕ) → KeptIds t u → m ≡ refuse a b → NamesLeft m n t u
 names-gone m n t u a b k e = record { same = k; told = λ pl f x ns ready none q is. let z : _≡_ {A = ℕ} 0 1 = cc in absurd (omega arith) }
 
 -- ipma-form, up to its entries
 module _ (ids : List ℕ) (most p : ℕ) (s : List ℕ) where
-  abbrev ipmaAnswer : Answer (List Named)
+  abbrev ipmaAnswer : Answer (List IpmaEntry)
   ipmaAnswer = whole (ipma-form ids most) p s
 
   ipma-gone : (a b : ℕ) → full (upto 1) .read p s ≡ refuse a b → ipmaAnswer ≡ refuse a b
@@ -121,14 +121,14 @@ module _ (ids : List ℕ) (most p : ℕ) (s : List ℕ) where
           (reads-got (full (upto 1)) p s _ _ _ (h .read)
           ∙ rw reads-bind (reads-field p s 4 4 _ room ∙ rw (reads-bind, ← is) (reads-no p (drop 8 s) 9 _ _ (lt-leb count 256 l))))
 
-      ipma-then : count ≤ 256 → (w : ℕ) → w ≡ pick (eqb (f % 2) 1) 2 1 → ipmaAnswer ≡ whole (many (named-form ids most v w) count []) p (drop 8 s)
+      ipma-then : count ≤ 256 → (w : ℕ) → w ≡ pick (eqb (f % 2) 1) 2 1 → ipmaAnswer ≡ whole (many (ipma-entry-form ids most v w) count []) p (drop 8 s)
       unfolding ipma-form
       ipma-then l w e =
           rw (whole-reads, reads-bind)
           (reads-got (full (upto 1)) p s _ _ _ (h .read)
           ∙ rw reads-bind (reads-field p s 4 4 _ room
           ∙ rw (reads-bind, ← is, ← e) (reads-yes p (drop 8 s) 9 _ _ (le-leb count 256 l) ∙
-          sym (whole-reads (many (named-form ids most v w) count []) p (drop 8 s)))))
+          sym (whole-reads (many (ipma-entry-form ids most v w) count []) p (drop 8 s)))))
 
 -- the same of a table t with n items: the code's answer r and the table u afterwards
 module _ (t : List ℕ) (n most p : ℕ) (s : List ℕ) where
@@ -155,23 +155,23 @@ module _ (t : List ℕ) (n most p : ℕ) (s : List ℕ) where
         read-many l = tells-refused _ (ipma-many (idsIn t n) most p s v f here room count is l)
 
         pub read-entries : count ≤ 256 → (w : ℕ) → w ≡ pick (eqb (f % 2) 1) 2 1 → (m : NamesRead) (u : List ℕ)
-            → (m ≡ toldNames (whole (many (named-form (idsIn t n) most v w) count []) p (drop 8 s))) ×
-            NamesLeft (whole (many (named-form (idsIn t n) most v w) count []) p (drop 8 s)) n t u
+            → (m ≡ toldNames (whole (many (ipma-entry-form (idsIn t n) most v w) count []) p (drop 8 s))) ×
+            NamesLeft (whole (many (ipma-entry-form (idsIn t n) most v w) count []) p (drop 8 s)) n t u
             → Tells m u
         read-entries l w g m u k =
             let z = sym (ipma-then (idsIn t n) most p s v f here room count is l w g) in
-            (k .0 ∙ ap toldNames z, subst (λ (a : Answer (List Named)). NamesLeft a n t u) z (k .1))
+            (k .0 ∙ ap toldNames z, subst (λ (a : Answer (List IpmaEntry)). NamesLeft a n t u) z (k .1))
 
 -- what the loop keeps: the entries read so far, from `from` to `at`, and the table with them
 module _ (s : List ℕ) (from count most v w place n : ℕ) (t₀ : List ℕ) where
-  abbrev entry : List Named → Form Named
-  entry = named-form (idsIn t₀ n) most v w
+  abbrev entry : List IpmaEntry → Form IpmaEntry
+  entry = ipma-entry-form (idsIn t₀ n) most v w
 
-  abbrev namesAnswer : Answer (List Named)
+  abbrev namesAnswer : Answer (List IpmaEntry)
   namesAnswer = whole (many entry count []) place (drop from s)
 
   pub record NamesSo (t : List ℕ) (at used above i : ℕ) : Type 0 where
-    pub entries : List Named
+    pub entries : List IpmaEntry
     pub here : at ≤ length s
     pub turn : i ≤ count
     pub total : associationsIn entries ≡ used
@@ -196,7 +196,7 @@ module _ (s : List ℕ) (from count most v w place n : ℕ) (t₀ : List ℕ) wh
         fresh = λ x l. refl;
         same = whole-reads (many entry count []) place (drop from s) ∙ ap (λ (i : ℕ). reads (many entry i []) place (drop from s) (over place)) e;
         kept = kept-self t₀;
-        told = λ pl f x ready none is. is ∙ ap (λ (ns : List Named). rawOf [] pl (withNames f ns) ++ x) none;
+        told = λ pl f x ready none is. is ∙ ap (λ (ns : List IpmaEntry). rawOf [] pl (withNames f ns) ++ x) none;
       }
 
   module _ (t : List ℕ) (at used above i : ℕ) (so : NamesSo t at used above i) where
@@ -217,16 +217,16 @@ module _ (s : List ℕ) (from count most v w place n : ℕ) (t₀ : List ℕ) wh
             record {
               same = so .kept;
               told = λ pl f x ns ready none q is. so .told pl f x ready none is ∙
-                  ap (λ (l : List Named). rawOf [] pl (withNames f l) ++ x) (ok-inj _ _ (sym e ∙ q));
+                  ap (λ (l : List IpmaEntry). rawOf [] pl (withNames f l) ++ x) (ok-inj _ _ (sym e ∙ q));
             },
           )
 
     -- one more
     module _ (more : i < count) (n-small : n ≤ 256) (u : List ℕ) (r : NamedPut)
-        (put : NamedPutIs (named-form (idsIn t n) most v w (so .entries) .read place (drop at s)) s n above used t u r) where
-      next : (m : Answer (Got Named)) → named-form (idsIn t n) most v w (so .entries) .read place (drop at s) ≡ m →
+        (put : NamedPutIs (ipma-entry-form (idsIn t n) most v w (so .entries) .read place (drop at s)) s n above used t u r) where
+      next : (m : Answer (Got IpmaEntry)) → ipma-entry-form (idsIn t n) most v w (so .entries) .read place (drop at s) ≡ m →
           entry (so .entries) .read place (drop at s) ≡ m
-      next m e = ap (λ (ids : List ℕ). named-form ids most v w (so .entries) .read place (drop at s)) (sym (so .kept .ids n n-small)) ∙ e
+      next m e = ap (λ (ids : List ℕ). ipma-entry-form ids most v w (so .entries) .read place (drop at s)) (sym (so .kept .ids n n-small)) ∙ e
 
       step : namesAnswer ≡ reads (entry (so .entries)) place (drop at s)
           (λ x q. reads (many entry (count - (i + 1)) (so .entries ++ (x ∷ []))) place q (over place))
@@ -237,14 +237,14 @@ module _ (s : List ℕ) (from count most v w place n : ℕ) (t₀ : List ℕ) wh
       pub names-refused : (y : Refusal) → r ≡ named.Refused y → (names.Refused y ≡ toldNames namesAnswer) × NamesLeft namesAnswer n t₀ u
       unfolding toldNames
       names-refused y e =
-          let b : NamedPutIs (named-form (idsIn t n) most v w (so .entries) .read place (drop at s)) s n above used t u
+          let b : NamedPutIs (ipma-entry-form (idsIn t n) most v w (so .entries) .read place (drop at s)) s n above used t u
           (named.Refused y) = subst (NamedPutIs _ s n above used t u) e put in
           let q = step ∙ reads-refused (entry (so .entries)) place (drop at s) _ _ _ (next _ (b .0)) in
           (sym (ap toldNames q), names-gone namesAnswer n t₀ u _ _ (kept-then t₀ t u (so .kept) (b .1)) q)
 
       module _ (end k id : ℕ) (row : ItemRow) (e : r ≡ named.Is end k id row) where
         abbrev Here : Type 0
-        Here = NamedHere (named-form (idsIn t n) most v w (so .entries) .read place (drop at s)) s n above used t u end k id (row .0)
+        Here = NamedHere (ipma-entry-form (idsIn t n) most v w (so .entries) .read place (drop at s)) s n above used t u end k id (row .0)
 
         pub put-here : Here
         put-here = subst (NamedPutIs _ s n above used t u) e put
@@ -261,7 +261,7 @@ module _ (s : List ℕ) (from count most v w place n : ℕ) (t₀ : List ℕ) wh
         names-more =
             let b = put-here in
             let c = b .count-is in
-            let x : Named = record { id = id; list = b .list } in
+            let x : IpmaEntry = record { id = id; list = b .list } in
             record {
               entries = so .entries ++ (x ∷ []);
               here = b .inside;

@@ -10,10 +10,10 @@ ghost use Rattle.fields.specs.Choice.{pick};
 ghost use Rattle.fields.specs.Field.{beAt};
 ghost use Rattle.forms.specs.Form.{Form, many, whole};
 ghost use Rattle.contents.specs.Full.{idBytes};
-ghost use Rattle.contents.specs.Ipma.{Named, associationsIn, markOf, association-form, named-form, ipma-form};
-ghost use Rattle.records.specs.Rows.{idsIn};
-ghost use Rattle.associations.specs.Told.{toldNames, NamesLeft};
-ghost use Rattle.associations.specs.Steps.{AssociatedIs, spanWords, list-form, ListedIs, Above, NamedPutIs};
+ghost use Rattle.contents.specs.Ipma.{IpmaEntry, associationsIn, markOf, association-form, ipma-entry-form, ipma-form};
+ghost use Rattle.records.specs.inner.Rows.{idsIn};
+ghost use Rattle.associations.specs.inner.Told.{toldNames, NamesLeft};
+ghost use Rattle.associations.specs.inner.Steps.{AssociatedIs, spanWords, list-form, ListedIs, Above, NamedPutIs};
 use boxes::Refusal;
 use contents::FullRead;
 use records::FoundRow;
@@ -187,8 +187,8 @@ fn put_named(
     used: usize,
 ) -> NamedPut
     requires { ⌜ (at ≤ length (now s)) × ((f .word ≡ 1) ⊎ (f .word ≡ 2)) × (n ≤ 256) × (used ≤ 2048) × (11280 ≤ length (now table)) ⌝ }
-    ensures { λ r. ⌜ ((before : List Named) → associationsIn before ≡ used → Above before above →
-        NamedPutIs (named-form (idsIn (now (table .entry)) n) (f .most) (f .version) (f .word) before .read place
+    ensures { λ r. ⌜ ((before : List IpmaEntry) → associationsIn before ≡ used → Above before above →
+        NamedPutIs (ipma-entry-form (idsIn (now (table .entry)) n) (f .most) (f .version) (f .word) before .read place
         (drop at (now (s .entry)))) (now (s .entry)) n above used (now (table .entry)) (now (table .exit)) r) ⌝ }
 {
     let v = f.version;
@@ -231,9 +231,9 @@ fn put_names(
 ) -> NamesRead
     requires { ⌜ (from ≤ length (now s)) × ((f .word ≡ 1) ⊎ (f .word ≡ 2)) × (n ≤ 256) × (11280 ≤ length (now table)) ⌝ }
     ensures { λ r. ⌜ r ≡ toldNames (whole (many
-        (named-form (idsIn (now (table .entry)) n) (f .most) (f .version) (f .word)) count []) place (drop from
+        (ipma-entry-form (idsIn (now (table .entry)) n) (f .most) (f .version) (f .word)) count []) place (drop from
         (now (s .entry)))) ⌝ }
-    ensures { λ _. ⌜ NamesLeft (whole (many (named-form (idsIn (now (table .entry)) n) (f .most) (f .version) (f .word))
+    ensures { λ _. ⌜ NamesLeft (whole (many (ipma-entry-form (idsIn (now (table .entry)) n) (f .most) (f .version) (f .word))
         count []) place (drop from (now (s .entry)))) n (now (table .entry)) (now (table .exit)) ⌝ }
 {
     let mut at = from;

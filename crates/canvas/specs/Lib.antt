@@ -1,1 +1,1 @@
-pub mod Scale
+pub mod inner

@@ -1,6 +1,6 @@
 // The page around a picture: its look, its field and its legend.
 ghost use mathlib.Core.Path.{_≡_};
-ghost use Rattle.canvas.specs.Scale.{scaleOf};
+ghost use Rattle.canvas.specs.inner.Scale.{scaleOf};
 use crate::number::put;
 use crate::number::put_fraction;
 use crate::number::put_number;

@@ -9,7 +9,7 @@ use Rattle.boxes.specs.Types.{hdlr, pitm, iinf, iloc, iprp, iref, idat, family,
 use Rattle.boxes.specs.Children.{ofKind, Few}
 use Rattle.boxes.proofs.AnswerLaws.{ok-bind, then-ok, ok-then, ok-inj, with-ok}
 use Rattle.boxes.proofs.ChildLaws.{children-sound, children-complete, first-sound, first-complete}
-use Rattle.forms.specs.Form.{whole-sound, whole-complete, front-sound, front-complete}
+use Rattle.forms.proofs.WholeLaws.{whole-sound, whole-complete, front-sound, front-complete}
 use Rattle.forms.proofs.LeadLaws.{lead-sound, lead-complete}
 use Rattle.contents.specs.Full.{full, upto}
 use Rattle.contents.specs.Hdlr.{hdlr-form}
@@ -17,14 +17,14 @@ use Rattle.contents.specs.Pitm.{pitm-form}
 use Rattle.contents.specs.Iinf.{idsOf}
 use Rattle.contents.specs.Iloc.{iloc-form}
 use Rattle.contents.specs.File.{File, contentsOf, fileOf}
-use Rattle.contents.specs.Keeps.{Spelled, Children, Keeps}
+use Rattle.contents.specs.Keeps.{Spelled, ChildrenSpell, Keeps}
 use Rattle.fields.proofs.TestLaws.{member-all}
 use Rattle.contents.proofs.ItemLaws.{items-sound, items-complete}
 use Rattle.contents.proofs.PropertyLaws.{shown-sound, shown-complete}
 use Rattle.contents.proofs.ReferenceLaws.{referred-sound, referred-complete}
 
 -- contentsOf
-pub contents-sound : (p at : ℕ) (s : List ℕ) (f : File) → contentsOf p at s ≡ ok f → Children s f
+pub contents-sound : (p at : ℕ) (s : List ℕ) (f : File) → contentsOf p at s ≡ ok f → ChildrenSpell s f
 unfolding contentsOf
 contents-sound p at s f e =
     with-ok _ _ f e (λ bs c e.
@@ -40,7 +40,7 @@ contents-sound p at s f e =
     with-ok _ _ f e (λ ls in-l e.
     with-ok _ _ f e (λ both in-r e.
     with-ok _ _ f e (λ ds in-d e.
-    subst (Children s) (ok-inj _ f e)
+    subst (ChildrenSpell s) (ok-inj _ f e)
     (record {
       boxes = bs;
       all = k .all;
@@ -78,7 +78,7 @@ spelled-few bs f h =
     one : {l : List (List ℕ)} {b : List ℕ} → l ≡ b ∷ [] → length l ≤ 1
     one e = rw e (omega arith)
 
-pub contents-complete : (p at : ℕ) (s : List ℕ) (f : File) → Children s f → contentsOf p at s ≡ ok f
+pub contents-complete : (p at : ℕ) (s : List ℕ) (f : File) → ChildrenSpell s f → contentsOf p at s ≡ ok f
 unfolding contentsOf
 contents-complete p at s f k =
     let bs : List (List ℕ) = k .boxes in

@@ -37,7 +37,7 @@ use Rattle.fields.proofs.TestLaws.{and-none}
 use Rattle.contents.specs.Full.{Full, full, between, upto, idBytes}
 use Rattle.contents.specs.Hdlr.{hdlr-form}
 use Rattle.contents.specs.Pitm.{pitm-form}
-use Rattle.contents.specs.Told.{toldFull}
+use Rattle.contents.specs.inner.Told.{toldFull}
 use Rattle.contents.specs.declared.FullRead.the-variants.{Is, Refused}
 
 -- between

@@ -7,7 +7,7 @@ use Rattle.boxes.specs.Answer.{ok}
 use Rattle.boxes.specs.Exactly.{exactly, Exact}
 use Rattle.boxes.proofs.AnswerLaws.{bind-ok, ok-bind, then-ok, ok-then, check-ok, ok-check, ok-inj}
 use Rattle.boxes.proofs.ExactlyLaws.{exactly-sound, exactly-complete}
-use Rattle.forms.specs.Form.{front-sound, front-complete}
+use Rattle.forms.proofs.WholeLaws.{front-sound, front-complete}
 use Rattle.forms.proofs.LeadLaws.{lead-sound, lead-complete}
 use Rattle.contents.specs.Iinf.{Item, infe-form, infe-step, iinf-count, items}
 use Rattle.contents.specs.Keeps.{ItemStep, Items}

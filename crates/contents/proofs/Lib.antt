@@ -6,3 +6,8 @@ pub mod FileLaws
 pub mod ReadLaws
 pub mod SumLaws
 pub mod LimitLaws
+pub mod BoxBreakLaws
+pub mod TopBreakLaws
+pub mod StepBreakLaws
+pub mod BreakLaws
+pub mod AfterMeta

@@ -16,7 +16,7 @@ use Rattle.forms.specs.Form.{give, demand, _>>=_}
 use Rattle.forms.proofs.ManyLaws.{many-length, many-keeps}
 use Rattle.contents.specs.Iinf.{Item, idsOf, infe-form, iinf-count}
 use Rattle.contents.specs.Iloc.{Location, extentsIn, entry-form, iloc-form}
-use Rattle.contents.specs.Ipma.{Named, associationsIn, named-form, ipma-form}
+use Rattle.contents.specs.Ipma.{IpmaEntry, associationsIn, ipma-entry-form, ipma-form}
 use Rattle.contents.specs.Iref.{Derivation, targetsIn, reference-form}
 use Rattle.contents.specs.Keeps.{ItemStep, Items, ReferenceStep, Referred}
 use Rattle.contents.proofs.SumLaws.{extents-more, associations-more, targets-more}
@@ -65,19 +65,19 @@ extents-few ids s ls h =
     (λ before u l p q. rw (extents-more before l) (entry-room ids _ _ _ _ _ before u l q)) _ [] _ ls (omega arith) t
 
 -- associationsIn
-named-room : (ids : List ℕ) (most v bytes : ℕ) (before : List Named) (u : List ℕ) (n : Named) →
-    named-form ids most v bytes before .Spells u n → associationsIn before + length (n .list) ≤ 2048
-unfolding named-form _>>=_ demand give
+named-room : (ids : List ℕ) (most v bytes : ℕ) (before : List IpmaEntry) (u : List ℕ) (n : IpmaEntry) →
+    ipma-entry-form ids most v bytes before .Spells u n → associationsIn before + length (n .list) ≤ 2048
+unfolding ipma-entry-form _>>=_ demand give
 named-room ids most v bytes before u n s =
     let t = s .then .then .then in
     let w = t .then .then in
     let k = many-length _ (t .value) [] (w .left) (w .value) (w .first) in
     rw (w .then .1) (omega (arith, leb-true (associationsIn before + t .value) 2048 (t .then .first .1)))
 
-pub associations-few : (ids : List ℕ) (most : ℕ) (s : List ℕ) (ns : List Named) → ipma-form ids most .Spells s ns → associationsIn ns ≤ 2048
+pub associations-few : (ids : List ℕ) (most : ℕ) (s : List ℕ) (ns : List IpmaEntry) → ipma-form ids most .Spells s ns → associationsIn ns ≤ 2048
 unfolding ipma-form _>>=_ demand associationsIn
 associations-few ids most s ns h =
-    many-keeps (λ (l : List Named). associationsIn l ≤ 2048) _
+    many-keeps (λ (l : List IpmaEntry). associationsIn l ≤ 2048) _
     (λ before u n p q. rw (associations-more before n) (named-room ids most _ _ before u n q)) _ [] _ ns
     (omega arith) (h .then .then .then)
 

@@ -1,5 +1,5 @@
 -- The properties and the associations of an `iprp` are read exactly where its bytes spell them. Assumes nothing.
-use Prim.Native.Nat.{ℕ, _≤_, _<_}
+use Prim.Native.Nat.{ℕ, _≤_}
 use native.Mathlib.Omega.{arith}
 use mathlib.Core.Path.{_≡_, refl, sym, ap, _∙_, subst}
 use mathlib.Core.List.{List, [], _∷_, _++_, append-assoc, append-nil}
@@ -17,16 +17,16 @@ use Rattle.boxes.specs.Box.{kindOf, bodyOf, IsBox, flat}
 use Rattle.boxes.specs.Children.{contain, once, Through, Children}
 use Rattle.boxes.proofs.AnswerLaws.{bind-ok, ok-bind, then-ok, ok-then, check-ok, ok-check, ok-inj}
 use Rattle.boxes.proofs.ChildLaws.{contain-sound, contain-complete, children-sound, children-complete}
-use Rattle.forms.specs.Form.{whole-sound, whole-complete}
-use Rattle.contents.specs.Ipco.{ispe-form, bytes-form, held, property, Held}
+use Rattle.forms.proofs.WholeLaws.{whole-sound, whole-complete}
+use Rattle.contents.specs.Ipco.{ispe-form, bytes-form, good-content, property-step, GoodContent}
 use Rattle.contents.specs.Ipma.{ipma-form}
-use Rattle.contents.specs.Iprp.{Shown, Pair, anyBox, pairOf, shown}
-use Rattle.contents.specs.Keeps.{Properties, Shows}
+use Rattle.contents.specs.Iprp.{IprpContent, Pair, anyBox, pairOf, iprp-content}
+use Rattle.contents.specs.Keeps.{PropertyStep, Properties, Shows}
 use Rattle.fields.proofs.TestLaws.{and-both, both-and, or-either}
 
 -- held
-pub held-sound : (k p : ℕ) (s : List ℕ) → held k p s ≡ ok tt → Held k s
-unfolding held pick
+pub held-sound : (k p : ℕ) (s : List ℕ) → good-content k p s ≡ ok tt → GoodContent k s
+unfolding good-content pick
 held-sound k p s e =
     record {
       of-ispe = λ h. whole-sound ispe-form p s tt (of ispe h);
@@ -35,11 +35,11 @@ held-sound k p s e =
       of-imir = λ h. whole-sound (bytes-form 1) p s tt (of imir h);
     }
   where
-    of : (j : ℕ) → k ≡ j → held j p s ≡ ok tt
+    of : (j : ℕ) → k ≡ j → good-content j p s ≡ ok tt
     of j h = rw (← h) e
 
-pub held-complete : (k p : ℕ) (s : List ℕ) → Held k s → held k p s ≡ ok tt
-unfolding held
+pub held-complete : (k p : ℕ) (s : List ℕ) → GoodContent k s → good-content k p s ≡ ok tt
+unfolding good-content
 held-complete k p s h =
     both Ok (eqb k ispe) _ _ (λ q. whole-complete ispe-form p s tt (h .of-ispe (eqb-true k ispe q)))
     (λ n. both Ok (eqb k clap) _ _ (λ q. whole-complete (bytes-form 32) p s tt (h .of-clap (eqb-true k clap q)))
@@ -54,15 +54,10 @@ held-complete k p s h =
 
 -- property: the next property is taken
 abbrev pub Good : List ℕ → Type 0
-Good b = Held (kindOf b) (bodyOf b)
+Good b = GoodContent (kindOf b) (bodyOf b)
 
-pub record Taken (before : List (List ℕ)) (b : List ℕ) (after : List (List ℕ)) : Type 0 where
-  pub room : length before < 256
-  pub good : Good b
-  pub kept : after ≡ before ++ (b ∷ [])
-
-pub property-sound : (at : ℕ) (before : List (List ℕ)) (b : List ℕ) (after : List (List ℕ)) → property at before b ≡ ok after → Taken before b after
-unfolding property
+pub property-sound : (at : ℕ) (before : List (List ℕ)) (b : List ℕ) (after : List (List ℕ)) → property-step at before b ≡ ok after → PropertyStep before b after
+unfolding property-step
 property-sound at before b after e =
     let x = then-ok _ _ after e in
     let y = then-ok _ _ after (x .2) in
@@ -72,46 +67,47 @@ property-sound at before b after e =
       kept = sym (ok-inj _ _ (y .2));
     }
 
-pub property-complete : (at : ℕ) (before : List (List ℕ)) (b : List ℕ) (after : List (List ℕ)) → Taken before b after → property at before b ≡ ok after
-unfolding property
+pub property-complete : (at : ℕ) (before : List (List ℕ)) (b : List ℕ) (after : List (List ℕ)) →
+    PropertyStep before b after → property-step at before b ≡ ok after
+unfolding property-step
 property-complete at before b after h =
     ok-then _ _ tt (ok-check 9 at _ (lt-ltb _ _ (h .room))) ∙ ok-then _ _ tt (held-complete _ at _ (h .good)) ∙ ap ok (sym (h .kept))
 
 -- the properties of an `ipco`
-through-good : (s bs t : List (List ℕ)) → length s ≤ 256 → Through Taken s bs t → (t ≡ s ++ bs) × (length t ≤ 256) × All Good bs
+through-good : (s bs t : List (List ℕ)) → length s ≤ 256 → Through PropertyStep s bs t → (t ≡ s ++ bs) × (length t ≤ 256) × All Good bs
 through-good s [] t l e = (sym e ∙ sym (append-nil s), subst (λ (r : List (List ℕ)). length r ≤ 256) e l, tt)
 through-good s (b ∷ bs) t l (m, n, x) =
     let k : length m ≤ 256 = rw (n .kept, length-append) (omega (arith, n .room)) in
     let g = through-good m bs t k x in
     (g .0 ∙ ap (λ (r : List (List ℕ)). r ++ bs) (n .kept) ∙ append-assoc s (b ∷ []) bs, g .1, (n .good, g .2))
 
-good-through : (s bs : List (List ℕ)) → length (s ++ bs) ≤ 256 → All Good bs → Through Taken s bs (s ++ bs)
+good-through : (s bs : List (List ℕ)) → length (s ++ bs) ≤ 256 → All Good bs → Through PropertyStep s bs (s ++ bs)
 good-through s [] l a = sym (append-nil s)
 good-through s (b ∷ bs) l a =
     let e : (s ++ (b ∷ [])) ++ bs ≡ s ++ (b ∷ bs) = append-assoc s (b ∷ []) bs in (
       s ++ (b ∷ []),
       record { room = omega (arith, length-append s (b ∷ bs)); good = a .0; kept = refl },
-      subst (λ (r : List (List ℕ)). Through Taken (s ++ (b ∷ [])) bs r) e (good-through (s ++ (b ∷ [])) bs (rw e l) (a .1)),
+      subst (λ (r : List (List ℕ)). Through PropertyStep (s ++ (b ∷ [])) bs r) e (good-through (s ++ (b ∷ [])) bs (rw e l) (a .1)),
     )
 
-pub properties-sound : (p at : ℕ) (s : List ℕ) (ps : List (List ℕ)) → contain property p at [] s ≡ ok ps → Properties s ps
+pub properties-sound : (p at : ℕ) (s : List ℕ) (ps : List (List ℕ)) → contain property-step p at [] s ≡ ok ps → Properties s ps
 properties-sound p at s ps e =
-    let c = contain-sound Taken property property-sound p at [] s ps e in
+    let c = contain-sound PropertyStep property-step property-sound p at [] s ps e in
     let t = through-good [] (c .boxes) ps (omega arith) (c .through) in
     record { boxes = subst (All IsBox) (sym (t .0)) (c .all); joined = ap flat (t .0) ∙ c .joined; good = subst (All Good) (sym (t .0)) (t .2); few = t .1 }
 
-pub properties-complete : (p at : ℕ) (s : List ℕ) (ps : List (List ℕ)) → Properties s ps → contain property p at [] s ≡ ok ps
+pub properties-complete : (p at : ℕ) (s : List ℕ) (ps : List (List ℕ)) → Properties s ps → contain property-step p at [] s ≡ ok ps
 properties-complete p at s ps h =
-    contain-complete Taken property property-complete p at [] s ps
+    contain-complete PropertyStep property-step property-complete p at [] s ps
     (record { boxes = ps; all = h .boxes; joined = h .joined; through = good-through [] ps (h .few) (h .good) })
 
 -- pairOf
-record Paired (bs : List (List ℕ)) (two : Pair) : Type 0 where
-  pair : bs ≡ two .first ∷ two .second ∷ []
-  first-kind : kindOf (two .first) ≡ ipco
-  second-kind : kindOf (two .second) ≡ ipma
+pub record Paired (bs : List (List ℕ)) (two : Pair) : Type 0 where
+  pub pair : bs ≡ two .first ∷ two .second ∷ []
+  pub first-kind : kindOf (two .first) ≡ ipco
+  pub second-kind : kindOf (two .second) ≡ ipma
 
-pair-sound : (p : ℕ) (bs : List (List ℕ)) (two : Pair) → pairOf p bs ≡ ok two → Paired bs two
+pub pair-sound : (p : ℕ) (bs : List (List ℕ)) (two : Pair) → pairOf p bs ≡ ok two → Paired bs two
 unfolding pairOf
 pair-sound p [] two e = let z : _≡_ {A = ℕ} 0 1 = cc in absurd (omega arith)
 pair-sound p (a ∷ []) two e = let z : _≡_ {A = ℕ} 0 1 = cc in absurd (omega arith)
@@ -125,7 +121,7 @@ pub pair-complete : (p : ℕ) (a b : List ℕ) → kindOf a ≡ ipco → kindOf 
 unfolding pairOf
 pair-complete p a b h k = ok-then _ _ tt (ok-check 7 p _ (both-and _ _ (eq-eqb _ _ h) (eq-eqb _ _ k)))
 
-flat-pair : (a b : List ℕ) → flat (a ∷ b ∷ []) ≡ a ++ b
+pub flat-pair : (a b : List ℕ) → flat (a ∷ b ∷ []) ≡ a ++ b
 unfolding flat
 flat-pair a b = ap (λ (r : List ℕ). a ++ r) (append-nil b)
 
@@ -134,14 +130,14 @@ pub any-sound : (p at : ℕ) (s : List ℕ) (bs : List (List ℕ)) → contain a
 unfolding once check _>>_
 any-sound p at s bs e = children-sound (λ k. false) p at s bs e
 
-any-complete : (p at : ℕ) (s : List ℕ) (bs : List (List ℕ)) → All IsBox bs → flat bs ≡ s → contain anyBox p at [] s ≡ ok bs
+pub any-complete : (p at : ℕ) (s : List ℕ) (bs : List (List ℕ)) → All IsBox bs → flat bs ≡ s → contain anyBox p at [] s ≡ ok bs
 unfolding once check _>>_
 any-complete p at s bs a j = children-complete (λ k. false) p at s bs
     (record { all = a; joined = j; few = λ k q. let z : _≡_ {A = ℕ} 0 1 = cc in absurd (omega arith) })
 
 -- shown
-pub shown-sound : (ids : List ℕ) (p at : ℕ) (s : List ℕ) (v : Shown) → shown ids p at s ≡ ok v → Shows ids s v
-unfolding shown
+pub shown-sound : (ids : List ℕ) (p at : ℕ) (s : List ℕ) (v : IprpContent) → iprp-content ids p at s ≡ ok v → Shows ids s v
+unfolding iprp-content
 shown-sound ids p at s v e =
     let x = bind-ok _ _ v e in
     let y = bind-ok _ _ v (x .2) in
@@ -164,8 +160,8 @@ shown-sound ids p at s v e =
       associations = whole-sound (ipma-form ids (length (q .0))) _ _ _ (n .1);
     })
 
-pub shown-complete : (ids : List ℕ) (p at : ℕ) (s : List ℕ) (v : Shown) → Shows ids s v → shown ids p at s ≡ ok v
-unfolding shown
+pub shown-complete : (ids : List ℕ) (p at : ℕ) (s : List ℕ) (v : IprpContent) → Shows ids s v → iprp-content ids p at s ≡ ok v
+unfolding iprp-content
 shown-complete ids p at s v h =
     let a : List ℕ = h .first in
     let b : List ℕ = h .second in

@@ -8,7 +8,7 @@ use Rattle.boxes.specs.Types.{dimg}
 use Rattle.boxes.specs.Box.{headOf, kindOf, bodyOf}
 use Rattle.boxes.proofs.AnswerLaws.{bind-ok, ok-bind, ok-inj}
 use Rattle.boxes.proofs.ChildLaws.{contain-sound, contain-complete}
-use Rattle.forms.specs.Form.{whole-sound, whole-complete}
+use Rattle.forms.proofs.WholeLaws.{whole-sound, whole-complete}
 use Rattle.forms.proofs.LeadLaws.{lead-sound, lead-complete}
 use Rattle.contents.specs.Full.{full, upto, idBytes}
 use Rattle.contents.specs.Iref.{Derivation, reference-form, reference, references}

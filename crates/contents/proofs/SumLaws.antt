@@ -6,7 +6,7 @@ use mathlib.Core.List.{List, [], _∷_, _++_, map-append}
 use lib.ListN.{length}
 use Rattle.contents.specs.Iinf.{Item, idsOf}
 use Rattle.contents.specs.Iloc.{Location, locatedIn, extentsIn}
-use Rattle.contents.specs.Ipma.{Named, associationsIn}
+use Rattle.contents.specs.Ipma.{IpmaEntry, associationsIn}
 use Rattle.contents.specs.Iref.{Derivation, targetsIn}
 
 pub ids-more : (is : List Item) (i : Item) → idsOf (is ++ (i ∷ [])) ≡ idsOf is ++ (i .id ∷ [])
@@ -20,7 +20,7 @@ unfolding extentsIn
 extents-more [] l = omega arith
 extents-more (m ∷ ls) l = rw (extents-more ls l) (omega arith)
 
-pub associations-more : (ns : List Named) (n : Named) → associationsIn (ns ++ (n ∷ [])) ≡ associationsIn ns + length (n .list)
+pub associations-more : (ns : List IpmaEntry) (n : IpmaEntry) → associationsIn (ns ++ (n ∷ [])) ≡ associationsIn ns + length (n .list)
 unfolding associationsIn
 associations-more [] n = omega arith
 associations-more (m ∷ ns) n = rw (associations-more ns n) (omega arith)

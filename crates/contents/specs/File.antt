@@ -10,7 +10,7 @@ use Rattle.boxes.specs.Answer.{Answer, ok, check, _>>=_, _>>_}
 use Rattle.boxes.specs.Types.{hdlr, pitm, iinf, iloc, iprp, iref, idat, known}
 use Rattle.boxes.specs.Box.{headOf, bodyOf}
 use Rattle.boxes.specs.Children.{ofKind, children, theOne, placeOf}
-use Rattle.boxes.specs.Top.{Spot, metaIn}
+use Rattle.boxes.specs.Top.{PlacedBox, metaIn}
 use Rattle.forms.specs.Form.{Form, whole, front}
 use Rattle.forms.specs.Lead.{lead}
 use Rattle.contents.specs.Full.{Full, full, upto}
@@ -18,8 +18,8 @@ use Rattle.contents.specs.Hdlr.{hdlr-form}
 use Rattle.contents.specs.Pitm.{pitm-form}
 use Rattle.contents.specs.Iinf.{Item, idsOf, items}
 use Rattle.contents.specs.Iloc.{Location, iloc-form}
-use Rattle.contents.specs.Ipma.{Named}
-use Rattle.contents.specs.Iprp.{Shown, shown}
+use Rattle.contents.specs.Ipma.{IpmaEntry}
+use Rattle.contents.specs.Iprp.{IprpContent, iprp-content}
 use Rattle.contents.specs.Iref.{Derivation, references}
 
 pub record File : Type 0 where
@@ -27,7 +27,7 @@ pub record File : Type 0 where
   pub items : List Item
   pub locations : List Location
   pub properties : List (List ℕ)
-  pub associations : List Named
+  pub associations : List IpmaEntry
   pub derivations : List Derivation
   pub idat : List ℕ
 
@@ -55,7 +55,7 @@ contentsOf p at s = do
   primary ← whole pitm-form (placeOf pitm at bs) (bodyOf m)
   is ← items (placeOf iinf at bs) (placeOf iinf at bs + headOf i) (bodyOf i)
   ls ← whole (iloc-form (idsOf is)) (placeOf iloc at bs) (bodyOf l)
-  both ← shown (idsOf is) (placeOf iprp at bs) (placeOf iprp at bs + headOf r) (bodyOf r)
+  both ← iprp-content (idsOf is) (placeOf iprp at bs) (placeOf iprp at bs + headOf r) (bodyOf r)
   ds ← referred (idsOf is) (placeOf iref at bs) (ofKind iref bs)
   ok (record {
     primary = primary;

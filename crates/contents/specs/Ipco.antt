@@ -1,6 +1,6 @@
 -- `ipco`: the properties. "Every box in `ipco` takes an index from 1, free space too." A property is its box.
---   Held k s               the content s is as long as a property of type k must be
---   property at before b   b as the next property, at `at`
+--   GoodContent k s               the content s is as long as a property of type k must be
+--   property-step at before b   b as the next property, at `at`
 use Prim.Native.Nat.{ℕ}
 use mathlib.Core.Path.{_≡_}
 use mathlib.Core.List.{List, [], _∷_, _++_}
@@ -30,19 +30,19 @@ bytes-form n = do
   give tt
 
 -- "Content: `ispe` version 0, 12 bytes; `clap` 32; `irot` (lowest two bits) and `imir` (lowest bit) 1; other lengths 8."
-unfoldable pub held : ℕ → ℕ → List ℕ → Answer (Unit {0})
-held k p s =
+unfoldable pub good-content : ℕ → ℕ → List ℕ → Answer (Unit {0})
+good-content k p s =
     pick (eqb k ispe) (whole ispe-form p s)
     (pick (eqb k clap) (whole (bytes-form 32) p s)
     (pick (eqb k irot || eqb k imir) (whole (bytes-form 1) p s) (ok tt)))
 
 -- "256 properties"; "a 257th property is 9, at its box, after 3"
-unfoldable pub property : ℕ → List (List ℕ) → List ℕ → Answer (List (List ℕ))
-property at before b =
+unfoldable pub property-step : ℕ → List (List ℕ) → List ℕ → Answer (List (List ℕ))
+property-step at before b =
     Ans._>>_ (check 9 at (ltb (length before) 256))
-    (Ans._>>_ (held (kindOf b) at (bodyOf b)) (ok (before ++ (b ∷ []))))
+    (Ans._>>_ (good-content (kindOf b) at (bodyOf b)) (ok (before ++ (b ∷ []))))
 
-pub record Held (k : ℕ) (s : List ℕ) : Type 0 where
+pub record GoodContent (k : ℕ) (s : List ℕ) : Type 0 where
   pub of-ispe : k ≡ ispe → ispe-form .Spells s tt
   pub of-clap : k ≡ clap → bytes-form 32 .Spells s tt
   pub of-irot : k ≡ irot → bytes-form 1 .Spells s tt

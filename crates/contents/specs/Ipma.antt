@@ -1,5 +1,5 @@
 -- `ipma`: the associations of properties to items.
---   Association, Named          one, and an item's
+--   Association, IpmaEntry          one, and an item's
 --   ipma-form ids most          the entries, ids being the items that are listed and `most` how many properties there are
 use Prim.Native.Nat.{ℕ, _+_, _%_}
 use mathlib.Core.List.{List, [], _∷_}
@@ -15,16 +15,16 @@ pub record Association : Type 0 where
   pub essential : Bool
   pub index : ℕ
 
-pub record Named : Type 0 where
+pub record IpmaEntry : Type 0 where
   pub id : ℕ
   pub list : List Association
 
-unfoldable pub associationsIn : List Named → ℕ
+unfoldable pub associationsIn : List IpmaEntry → ℕ
 associationsIn [] = 0
 associationsIn (n ∷ ns) = length (n .list) + associationsIn ns
 
 -- "IDs strictly rising": x is above the ID of the last entry
-abbrev pub rises : ℕ → List Named → Bool
+abbrev pub rises : ℕ → List IpmaEntry → Bool
 rises x [] = true
 rises x (n ∷ []) = ltb (n .id) x
 rises x (n ∷ m ∷ ns) = rises x (m ∷ ns)
@@ -41,8 +41,8 @@ association-form bytes most before = do
   give (record { essential = leb (markOf bytes) a; index = a % markOf bytes })
 
 -- "IDs strictly rising, else 10, before 11"; "Every ID in .. `ipma` .. must be listed, else 11"; "2,048 associations"
-unfoldable pub named-form : List ℕ → ℕ → ℕ → ℕ → List Named → Form Named
-named-form ids most v bytes before = do
+unfoldable pub ipma-entry-form : List ℕ → ℕ → ℕ → ℕ → List IpmaEntry → Form IpmaEntry
+ipma-entry-form ids most v bytes before = do
   id ← field (idBytes v)
   demand 10 (rises id before)
   demand 11 (member id ids)
@@ -52,9 +52,9 @@ named-form ids most v bytes before = do
   give (record { id = id; list = l })
 
 -- "`ipma` version 0 or 1 (16- or 32-bit IDs)"; "The first [limit, 256] holds for .. `ipma` counts too"
-unfoldable pub ipma-form : List ℕ → ℕ → Form (List Named)
+unfoldable pub ipma-form : List ℕ → ℕ → Form (List IpmaEntry)
 ipma-form ids most = do
   h ← full (upto 1)
   n ← field 4
   demand 9 (leb n 256)
-  many (named-form ids most (h .version) (pick (eqb (h .flags % 2) 1) 2 1)) n []
+  many (ipma-entry-form ids most (h .version) (pick (eqb (h .flags % 2) 1) 2 1)) n []

@@ -1,6 +1,6 @@
 -- `iprp`: "exactly `ipco` then one `ipma`, else 7 at `iprp` (after 3 at its level, before their contents)."
---   Shown                     the properties and the associations
---   shown ids p at s          those of the `iprp` at p whose content s begins at `at`
+--   IprpContent                     the properties and the associations
+--   iprp-content ids p at s          those of the `iprp` at p whose content s begins at `at`
 use Prim.Native.Nat.{ℕ, _+_}
 use mathlib.Core.List.{List, [], _∷_, _++_}
 use mathlib.Core.Bool.{Bool, _&&_}
@@ -11,12 +11,12 @@ use Rattle.boxes.specs.Types.{ipco, ipma}
 use Rattle.boxes.specs.Box.{headOf, kindOf, bodyOf}
 use Rattle.boxes.specs.Children.{contain}
 use Rattle.forms.specs.Form.{Form, whole}
-use Rattle.contents.specs.Ipco.{property}
-use Rattle.contents.specs.Ipma.{Named, ipma-form}
+use Rattle.contents.specs.Ipco.{property-step}
+use Rattle.contents.specs.Ipma.{IpmaEntry, ipma-form}
 
-pub record Shown : Type 0 where
+pub record IprpContent : Type 0 where
   pub properties : List (List ℕ)
-  pub associations : List Named
+  pub associations : List IpmaEntry
 
 pub record Pair : Type 0 where
   pub first : List ℕ
@@ -32,10 +32,10 @@ pairOf p (a ∷ []) = refuse 7 p
 pairOf p (a ∷ b ∷ []) = check 7 p (eqb (kindOf a) ipco && eqb (kindOf b) ipma) >> ok (record { first = a; second = b })
 pairOf p (a ∷ b ∷ c ∷ cs) = refuse 7 p
 
-unfoldable pub shown : List ℕ → ℕ → ℕ → List ℕ → Answer Shown
-shown ids p at s = do
+unfoldable pub iprp-content : List ℕ → ℕ → ℕ → List ℕ → Answer IprpContent
+iprp-content ids p at s = do
   bs ← contain anyBox p at [] s
   two ← pairOf p bs
-  ps ← contain property at (at + headOf (two .first)) [] (bodyOf (two .first))
+  ps ← contain property-step at (at + headOf (two .first)) [] (bodyOf (two .first))
   ns ← whole (ipma-form ids (length ps)) (at + length (two .first)) (bodyOf (two .second))
   ok (record { properties = ps; associations = ns })

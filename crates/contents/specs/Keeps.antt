@@ -25,9 +25,9 @@ use Rattle.contents.specs.Hdlr.{hdlr-form}
 use Rattle.contents.specs.Pitm.{pitm-form}
 use Rattle.contents.specs.Iinf.{Item, idsOf, infe-form, iinf-count}
 use Rattle.contents.specs.Iloc.{Location, iloc-form}
-use Rattle.contents.specs.Ipco.{Held}
-use Rattle.contents.specs.Ipma.{Named, ipma-form}
-use Rattle.contents.specs.Iprp.{Shown}
+use Rattle.contents.specs.Ipco.{GoodContent}
+use Rattle.contents.specs.Ipma.{IpmaEntry, ipma-form}
+use Rattle.contents.specs.Iprp.{IprpContent}
 use Rattle.contents.specs.Iref.{Derivation, reference-form}
 use Rattle.contents.specs.File.{File, dataOf}
 
@@ -42,14 +42,19 @@ abbrev pub Items : List ℕ → List Item → Type 0
 Items s is = Leads iinf-count (λ n r. Exact ItemStep n [] r) s is
 
 -- `ipco`: boxes, at most 256, each as long as its type asks
+pub record PropertyStep (before : List (List ℕ)) (b : List ℕ) (after : List (List ℕ)) : Type 0 where
+  pub room : length before < 256
+  pub good : GoodContent (kindOf b) (bodyOf b)
+  pub kept : after ≡ before ++ (b ∷ [])
+
 pub record Properties (s : List ℕ) (ps : List (List ℕ)) : Type 0 where
   pub boxes : All IsBox ps
   pub joined : flat ps ≡ s
-  pub good : All (λ (b : List ℕ). Held (kindOf b) (bodyOf b)) ps
+  pub good : All (λ (b : List ℕ). GoodContent (kindOf b) (bodyOf b)) ps
   pub few : length ps ≤ 256
 
 -- `iprp`: an `ipco`, then an `ipma`
-pub record Shows (ids : List ℕ) (s : List ℕ) (v : Shown) : Type 0 where
+pub record Shows (ids : List ℕ) (s : List ℕ) (v : IprpContent) : Type 0 where
   pub first : List ℕ
   pub second : List ℕ
   pub first-box : IsBox first
@@ -95,14 +100,14 @@ pub record Spelled (bs : List (List ℕ)) (f : File) : Type 0 where
   pub in-iref : Referred (idsOf (f .items)) (ofKind iref bs) (f .derivations)
   pub in-idat : f .idat ≡ dataOf (ofKind idat bs)
 
-pub record Children (s : List ℕ) (f : File) : Type 0 where
+pub record ChildrenSpell (s : List ℕ) (f : File) : Type 0 where
   pub boxes : List (List ℕ)
   pub all : All IsBox boxes
   pub joined : flat boxes ≡ s
   pub spelled : Spelled boxes f
 
 abbrev pub Keeps : List ℕ → File → Type 0
-Keeps s f = Leads (full (upto 0)) (λ h r. Children r) s f
+Keeps s f = Leads (full (upto 0)) (λ h r. ChildrenSpell r) s f
 
 pub record FileIn (total : ℕ) (head : List ℕ) (f : File) : Type 0 where
   pub small : length head ≤ 65536

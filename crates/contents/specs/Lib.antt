@@ -9,4 +9,7 @@ pub mod Iprp
 pub mod Iref
 pub mod File
 pub mod Keeps
-pub mod Told
+pub mod BoxBreaks
+pub mod TopBreaks
+pub mod Breaks
+pub mod inner

@@ -4,7 +4,7 @@ ghost use Rattle.forms.specs.Form.{Form, whole, front};
 ghost use Rattle.contents.specs.Full.{full, between};
 ghost use Rattle.contents.specs.Hdlr.{hdlr-form};
 ghost use Rattle.contents.specs.Pitm.{pitm-form};
-ghost use Rattle.contents.specs.Told.{toldFull, toldHdlr, toldPitm};
+ghost use Rattle.contents.specs.inner.Told.{toldFull, toldHdlr, toldPitm};
 use boxes::Refusal;
 use table::ItemId;
 

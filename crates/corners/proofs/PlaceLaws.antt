@@ -5,7 +5,7 @@ use mathlib.Core.Path.{_≡_, sym, ap, _∙_}
 use borrow.Author.Tests.{lt-ltb, le-ltb}
 use Rattle.fields.proofs.FieldLaws.{pick-yes, pick-no}
 use Rattle.pictures.specs.Signed.{Signed, plus, minus, signed}
-use Rattle.corners.specs.Place.{raised}
+use Rattle.corners.specs.inner.Place.{raised}
 
 -- raised: the number v of so many bytes, half of 256 ^ bytes being known
 module _ (bytes v half : ℕ) (e : 2 * half ≡ 256 ^ bytes) (n : ℕ) (q : n ≡ v) where

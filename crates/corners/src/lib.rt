@@ -4,7 +4,7 @@ ghost use Prim.Native.Nat.{_+_, _*_, _-_, _≤_, _<_};
 ghost use lib.ListN.{length};
 ghost use Rattle.fields.specs.Field.{beAt};
 ghost use Rattle.pictures.specs.Signed.{signed};
-ghost use Rattle.corners.specs.Place.{raised, tileIn, spanOf, seenIn, seenOf};
+ghost use Rattle.corners.specs.inner.Place.{raised, tileIn, spanOf, seenIn, seenOf};
 use layout::Part;
 use layout::ZERO;
 use layout::least;

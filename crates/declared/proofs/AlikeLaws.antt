@@ -15,8 +15,8 @@ use Rattle.contents.specs.File.{File}
 use Rattle.rules.specs.Joined.{associationsOf, noAssociation}
 use Rattle.rules.specs.Places.{Places}
 use Rattle.rules.specs.Words.{associationWord}
-use Rattle.views.specs.View.{TableOf}
-use Rattle.declared.specs.Told.{toldSizes}
+use Rattle.views.specs.inner.View.{TableOf}
+use Rattle.declared.specs.inner.Told.{toldSizes}
 
 abbrev pub AlikeTo : File → ℕ → ℕ → ℕ → Type 0
 AlikeTo f a b j = (i : ℕ) → i < j → getD (associationsOf f a) i noAssociation ≡ getD (associationsOf f b) i noAssociation

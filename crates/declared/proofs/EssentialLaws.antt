@@ -12,7 +12,7 @@ use Rattle.rules.specs.Joined.{associationsOf, typesOf, propertyAt, noAssociati
 use Rattle.rules.specs.Places.{Places}
 use Rattle.rules.specs.Rules.{essentialKnown}
 use Rattle.rules.specs.Words.{associationWord}
-use Rattle.views.specs.View.{TableOf}
+use Rattle.views.specs.inner.View.{TableOf}
 use Rattle.fields.proofs.ListLaws.{left-from}
 use Rattle.declared.proofs.NamedLaws.{box-at, type-at, marked-read, plain-read}
 

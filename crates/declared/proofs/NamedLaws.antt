@@ -14,15 +14,15 @@ use Rattle.boxes.specs.Box.{kindOf, bodyOf}
 use Rattle.forms.specs.Form.{give, field, _>>=_}
 use Rattle.contents.proofs.PropertyLaws.{Good}
 use Rattle.contents.specs.Full.{upto}
-use Rattle.contents.specs.Ipco.{Held, bytes-form, ispe-form}
+use Rattle.contents.specs.Ipco.{GoodContent, bytes-form, ispe-form}
 use Rattle.contents.specs.Ipma.{Association}
 use Rattle.contents.specs.File.{File}
 use Rattle.pictures.specs.Decode.{transform}
-use Rattle.pictures.specs.Told.{Sized}
+use Rattle.pictures.specs.inner.Told.{LongAsAsked}
 use Rattle.rules.specs.Joined.{associationsOf, boxesOf, typesOf, propertyAt, noAssociation}
 use Rattle.rules.specs.Places.{Places}
 use Rattle.rules.specs.Words.{associationWord}
-use Rattle.views.specs.View.{TableOf}
+use Rattle.views.specs.inner.View.{TableOf}
 use Rattle.views.proofs.PartLaws.{full-length}
 use Rattle.views.proofs.TableLaws.{property-none, no-kind}
 
@@ -84,8 +84,8 @@ ispe-long s h =
       ap length (v .then .0),
     )
 
--- Held
-held-nothing : Held (kindOf []) (bodyOf [])
+-- GoodContent
+held-nothing : GoodContent (kindOf []) (bodyOf [])
 held-nothing =
     record {
       of-ispe = λ e. absurd (omega (arith, no-kind, e));
@@ -94,7 +94,7 @@ held-nothing =
       of-imir = λ e. absurd (omega (arith, no-kind, e));
     }
 
-pub held-sized : (k : ℕ) (s : List ℕ) → Held k s → transform k ≡ true → Sized k s
+pub held-sized : (k : ℕ) (s : List ℕ) → GoodContent k s → transform k ≡ true → LongAsAsked k s
 held-sized k s h e =
     record {
       of-irot = λ q. bytes-long 1 s (h .of-irot q);
@@ -102,12 +102,12 @@ held-sized k s h e =
       of-clap = λ n m. bytes-long 32 s (h .of-clap (eqb-true k clap (rw (ne-eqb k irot n, ne-eqb k imir m) at e)));
     }
 
-pub held-ispe : (k : ℕ) (s : List ℕ) → Held k s → k ≡ ispe → length s ≡ 12
+pub held-ispe : (k : ℕ) (s : List ℕ) → GoodContent k s → k ≡ ispe → length s ≡ 12
 held-ispe k s h e = ispe-long s (h .of-ispe e)
 
 -- a table's associations: w is the word of the one with number j
 module _ {t head : List ℕ} {pl : Places} {f : File} (v : TableOf t head pl f) (id j : ℕ) where
-  pub box-held : j < length (associationsOf f id) → Held (kindOf (getD (boxesOf f id) j [])) (bodyOf (getD (boxesOf f id) j []))
+  pub box-held : j < length (associationsOf f id) → GoodContent (kindOf (getD (boxesOf f id) j [])) (bodyOf (getD (boxesOf f id) j []))
   unfolding propertyAt
   box-held l =
       let i = getD (associationsOf f id) j noAssociation .index in

@@ -17,12 +17,12 @@ use Rattle.pictures.specs.declared.Size.{Size}
 use Rattle.pictures.specs.declared.Turn.{Turn}
 use Rattle.pictures.specs.Turn.{size, sizeAfter, sizeThrough}
 use Rattle.pictures.specs.Decode.{transform, turnOf, turnsOf, ispeOf}
-use Rattle.pictures.specs.Told.{Sized, turnBy}
+use Rattle.pictures.specs.inner.Told.{LongAsAsked, turnBy}
 use Rattle.pictures.proofs.TurnByLaws.{turn-by}
 use Rattle.rules.specs.Joined.{associationsOf, boxesOf, typesOf}
 use Rattle.rules.specs.Places.{Places}
 use Rattle.rules.specs.Derivations.{declaredIn}
-use Rattle.views.specs.View.{TableOf}
+use Rattle.views.specs.inner.View.{TableOf}
 use Rattle.fields.proofs.ListLaws.{left-from}
 use Rattle.declared.specs.declared.SizesRead.{SizesRead}
 use Rattle.declared.specs.declared.SizesRead.the-variants.{Are}
@@ -92,13 +92,13 @@ module _ {t head : List ℕ} {pl : Places} {f : File} (v : TableOf t head pl f) 
         ∙ sym (declared-here _ (drop (j + 1) (boxesOf f id)) z)
         ∙ sym (ap declaredIn boxes-left)
 
-    content-sized : transform k ≡ true → Sized k c
+    content-sized : transform k ≡ true → LongAsAsked k c
     content-sized q = rw (kind-said, content-said) (held-sized _ _ (box-held v id j l) (ap transform (sym kind-said) ∙ q))
 
-    pub turn-read : (s : Size) (u : Turn) → transform k ≡ true → (Sized k c → u ≡ turnBy s k c) → u ≡ turnOf s (getD (boxesOf f id) j [])
+    pub turn-read : (s : Size) (u : Turn) → transform k ≡ true → (LongAsAsked k c → u ≡ turnBy s k c) → u ≡ turnOf s (getD (boxesOf f id) j [])
     turn-read s u q g = g (content-sized q) ∙ rw (kind-said, content-said) (sym (turn-by s (getD (boxesOf f id) j [])))
 
-    through-read : (s r : Size) (u : Turn) → transform k ≡ true → (Sized k c → u ≡ turnBy s k c) → r ≡ sizeAfter u s
+    through-read : (s r : Size) (u : Turn) → transform k ≡ true → (LongAsAsked k c → u ≡ turnBy s k c) → r ≡ sizeAfter u s
         → through s (drop j (boxesOf f id)) ≡ through r (drop (j + 1) (boxesOf f id))
     through-read s r u q g er =
         ap (through s) boxes-left
@@ -110,7 +110,7 @@ module _ {t head : List ℕ} {pl : Places} {f : File} (v : TableOf t head pl f) 
     unfolding sizesBehind
     sizes-declared d o r q g = rw (← declared-read r q g) (ap (Are r) (through-skip r (ap transform q)))
 
-    pub sizes-turned : (d s r : Size) (u : Turn) → transform k ≡ true → (Sized k c → u ≡ turnBy s k c) → r ≡ sizeAfter u s
+    pub sizes-turned : (d s r : Size) (u : Turn) → transform k ≡ true → (LongAsAsked k c → u ≡ turnBy s k c) → r ≡ sizeAfter u s
         → sizesBehind true d s (drop j (boxesOf f id)) ≡ sizesBehind true d r (drop (j + 1) (boxesOf f id))
     unfolding sizesBehind
     sizes-turned d s r u q g er = ap (Are d) (through-read s r u q g er)

@@ -19,13 +19,13 @@ use Rattle.pictures.specs.declared.Size.{Size}
 use Rattle.pictures.specs.declared.Turn.{Turn}
 use Rattle.pictures.specs.Turn.{size, sizeAfter}
 use Rattle.pictures.specs.Decode.{transform}
-use Rattle.pictures.specs.Told.{Sized, turnBy}
+use Rattle.pictures.specs.inner.Told.{LongAsAsked, turnBy}
 use Rattle.rules.specs.Joined.{associationsOf, boxesOf, typesOf}
 use Rattle.rules.specs.Places.{Places}
 use Rattle.rules.specs.Derivations.{declaredIn}
 use Rattle.rules.specs.Rules.{essentialKnown, goodIspe}
-use Rattle.views.specs.View.{TableOf}
-use Rattle.declared.specs.Told.{toldSizes}
+use Rattle.views.specs.inner.View.{TableOf}
+use Rattle.declared.specs.inner.Told.{toldSizes}
 use Rattle.declared.specs.declared.SizesRead.{SizesRead}
 use Rattle.declared.specs.declared.SizesRead.the-variants.{Are, Wrong}
 use Rattle.declared.proofs.NamedLaws.{boxes-many, types-many}
@@ -98,7 +98,7 @@ module _ {t head : List ℕ} {pl : Places} {f : File} (v : TableOf t head pl f) 
           (sizes-declared v id j l k e b c eb ec d o r i g))
 
       pub told-turned : (u : Turn) → (k ≡ ispe → ⊥) → s₁ ≡ s → d₁ ≡ d → o₁ ≡ o → transform k ≡ true → s₁ ≡ true →
-          (Sized k c → u ≡ turnBy o₁ k c) → o₂ ≡ sizeAfter u o₁ → toldFrom f id j s d o ≡ toldFrom f id (j + 1) s₁ d₁ o₂
+          (LongAsAsked k c → u ≡ turnBy o₁ k c) → o₂ ≡ sizeAfter u o₁ → toldFrom f id j s d o ≡ toldFrom f id (j + 1) s₁ d₁ o₂
       told-turned u n es ed eo q z g et =
           rw (sym es ∙ z, z, ed)
           (told-on f id j true d o true d o₂ known (sized-turn (typesOf f id) j in-types k e n)

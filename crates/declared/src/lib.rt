@@ -13,8 +13,8 @@ ghost use Rattle.pictures.specs.Decode.{transform};
 ghost use Rattle.rules.specs.Places.{Places};
 ghost use Rattle.rules.specs.Joined.{associationsOf, boxesOf, typesOf};
 ghost use Rattle.rules.specs.Rules.{essentialKnown};
-ghost use Rattle.views.specs.View.{TableOf, idOf};
-ghost use Rattle.declared.specs.Told.{toldSizes};
+ghost use Rattle.views.specs.inner.View.{TableOf, idOf};
+ghost use Rattle.declared.specs.inner.Told.{toldSizes};
 use pictures::Size;
 use table::ItemRow;
 
@@ -131,7 +131,7 @@ pub fn properties_fault(table: &[u32], row: ItemRow) -> u32
     if essentials_known(table, row) { 16 } else { 15 }
 }
 
-// Whether two items have the same associations in the same order.
+// Whether two items have the same associations in the same order. A hint: a no promises nothing, and costs only time.
 pub fn is_alike(table: &[u32], row: ItemRow, other: ItemRow) -> bool
     ensures { λ r. ⌜ ((head : List ℕ) (pl : Places) (f : File) → TableOf (now (table .entry)) head pl f →
         row .0 < length (f .items) → other .0 < length (f .items) → r ≡ true →

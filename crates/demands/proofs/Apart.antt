@@ -16,7 +16,7 @@ use Rattle.fields.proofs.FieldLaws.{be-front}
 use Rattle.fields.proofs.ListLaws.{all-append}
 use Rattle.boxes.specs.Types.{meta, iinf, iref}
 use Rattle.boxes.specs.Box.{headOf, sizeOf, kindOf, bodyOf, IsBox, flat}
-use Rattle.boxes.specs.Top.{Spot, FirstMeta}
+use Rattle.boxes.specs.Top.{PlacedBox, FirstMeta}
 use Rattle.boxes.proofs.AnswerLaws.{ok-inj}
 use Rattle.boxes.proofs.BoxLaws.{head-least, box-size, flat-append}
 use Rattle.boxes.proofs.TopLaws.{meta-complete}
@@ -263,11 +263,11 @@ module _ {total : ℕ} {head : List ℕ} where
   -- two in the `meta`, of which there is one
   meta-apart : {p q : ℕ} → length head ≤ total → InMeta total head p → InMeta total head q → Apart p q
   meta-apart fits x y =
-      let e : _≡_ {A = Spot} (record { box = x .m; place = x .place }) (record { box = y .m; place = y .place }) =
+      let e : _≡_ {A = PlacedBox} (record { box = x .m; place = x .place }) (record { box = y .m; place = y .place }) =
       ok-inj _ _ (sym (meta-complete total head (x .m) (x .place) fits (x .found)) ∙
       meta-complete total head (y .m) (y .place) fits (y .found)) in
-      let b : x .m ≡ y .m = ap (λ (r : Spot). r .box) e in
-      let i : x .place ≡ y .place = ap (λ (r : Spot). r .place) e in
+      let b : x .m ≡ y .m = ap (λ (r : PlacedBox). r .box) e in
+      let i : x .place ≡ y .place = ap (λ (r : PlacedBox). r .place) e in
       let hd : headOf (x .m) ≡ headOf (y .m) = ap headOf b in
       let k = x .long in
       let l = y .long in

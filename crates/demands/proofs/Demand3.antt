@@ -26,7 +26,7 @@ use Rattle.rules.specs.Derivations.{sceneOf}
 use Rattle.rules.specs.Rules.{judged}
 use Rattle.questions.specs.Questions.{traceIn, foundBy}
 use Rattle.rules.proofs.RuleLaws.{judged-each}
-use Rattle.rules.proofs.SceneLaws.{accepted-good, inputs-fed}
+use Rattle.rules.proofs.SceneLaws.{judged-good, inputs-fed}
 use Rattle.rules.proofs.DerivationLaws.{shaped-drawn}
 use Rattle.traced.specs.declared.Traced.{Traced as Told}
 use Rattle.traced.specs.Told.{toldTraced}
@@ -79,7 +79,7 @@ module _ (head : List ℕ) (total : ℕ) (table : List ℕ) (enough : 11280 ≤ 
 
     pub trace-followed : (r : Told) (left : List ℕ) → TraceGiven head total table id p r left → Followed r
     trace-followed r left g =
-        let scene = accepted-good total head f is-judged in
+        let scene = judged-good total head f is-judged in
         let x = has-path s scene asked in
         let y = trace-is s scene (x .path) in
         record {

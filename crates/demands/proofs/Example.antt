@@ -69,8 +69,8 @@ unfolding FieldsChoice.pick FieldsField.beAt BoxesAnswer._>>=_ BoxesAnswer._>>_ 
     ContentsFile.referred ContentsFile.dataOf ContentsFile.contentsOf ContentsFile.fileOf ContentsFile.readFile
     ContentsFull.full ContentsHdlr.hdlr-form ContentsIinf.infe-form ContentsIinf.infe-step ContentsIinf.iinf-count
     ContentsIinf.items ContentsIloc.extentsIn ContentsIloc.extent-form ContentsIloc.entry-form ContentsIloc.iloc-form
-    ContentsIpco.ispe-form ContentsIpco.bytes-form ContentsIpco.held ContentsIpco.property ContentsIpma.associationsIn
-    ContentsIpma.association-form ContentsIpma.named-form ContentsIpma.ipma-form ContentsIprp.pairOf ContentsIprp.shown
+    ContentsIpco.ispe-form ContentsIpco.bytes-form ContentsIpco.good-content ContentsIpco.property-step ContentsIpma.associationsIn
+    ContentsIpma.association-form ContentsIpma.ipma-entry-form ContentsIpma.ipma-form ContentsIprp.pairOf ContentsIprp.iprp-content
     ContentsIref.targetsIn ContentsIref.target-form ContentsIref.reference-form ContentsIref.reference
     ContentsIref.references ContentsPitm.pitm-form PicturesDecode.rotation PicturesDecode.mirror PicturesDecode.turnOf
     PicturesDecode.turnsOf PicturesDepth.reaches PicturesDepth.largest PicturesDepth.depthBy PicturesDepth.depthN

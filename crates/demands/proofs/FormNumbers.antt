@@ -32,7 +32,7 @@ use Rattle.contents.specs.Pitm.{pitm-form}
 use Rattle.contents.specs.Iinf.{Item, infe-form, iinf-count}
 use Rattle.contents.specs.Iloc.{Extent, Location, extent-form, entry-form, iloc-form}
 use Rattle.contents.specs.Ipco.{ispe-form, bytes-form}
-use Rattle.contents.specs.Ipma.{Association, Named, association-form, named-form, ipma-form}
+use Rattle.contents.specs.Ipma.{Association, IpmaEntry, association-form, ipma-entry-form, ipma-form}
 use Rattle.contents.specs.Iref.{Derivation, target-form, reference-form}
 use Rattle.demands.specs.Numbers.{Among}
 use Rattle.demands.specs.Places.{boxPlaced, Content, BoxAt}
@@ -234,8 +234,8 @@ association-reads bytes most before = do
   demands 11 _ refl
   gives _
 
-named-reads : (ids : List ℕ) (most v bytes : ℕ) (before : List Named) → Reads (named-form ids most v bytes before)
-unfolding named-form
+named-reads : (ids : List ℕ) (most v bytes : ℕ) (before : List IpmaEntry) → Reads (ipma-entry-form ids most v bytes before)
+unfolding ipma-entry-form
 named-reads ids most v bytes before = do
   id ← fields _
   demands 10 _ refl

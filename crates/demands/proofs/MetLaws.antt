@@ -21,7 +21,7 @@ use Rattle.boxes.specs.Types.{ispe, knownProperty, image}
 use Rattle.boxes.specs.Box.{kindOf, bodyOf, IsBox}
 use Rattle.boxes.proofs.AnswerLaws.{then-ok, check-ok}
 use Rattle.contents.specs.Iinf.{Item}
-use Rattle.contents.specs.Ipco.{Held}
+use Rattle.contents.specs.Ipco.{GoodContent}
 use Rattle.contents.specs.Ipma.{Association}
 use Rattle.contents.specs.File.{File}
 use Rattle.contents.proofs.PropertyLaws.{Good}
@@ -33,7 +33,7 @@ use Rattle.pictures.specs.Decode.{ispeOf, turnsOf}
 use Rattle.pictures.specs.Recipe.{Recipe, Coded, Copy, Opaque, Tiles, Layers, Grid, Overlay}
 use Rattle.pictures.specs.Scene.{Picture, Scene, pictureAt, firstInput, covered, allSize, madeUp}
 use Rattle.pictures.specs.Trace.{End, undoTurns, Reached, Path, at-pixel, at-fill, through}
-use Rattle.pictures.specs.GoodScene.{Shaped, GoodPicture}
+use Rattle.pictures.specs.inner.GoodScene.{Shaped, GoodPicture}
 use Rattle.pictures.proofs.SceneLaws.{same-size, is-made-up}
 use Rattle.pictures.proofs.SourceLaws.{tile-in}
 use Rattle.pictures.proofs.PathLaws.{good-picture}
@@ -42,8 +42,8 @@ use Rattle.rules.specs.Places.{placesIn}
 use Rattle.rules.specs.Derivations.{declaredIn, sceneOf}
 use Rattle.rules.specs.Rules.{countOf, rule15-16, judged}
 use Rattle.rules.proofs.RuleLaws.{Judged, judged-each}
-use Rattle.rules.proofs.SceneLaws.{accepted-good, opaque-at, declared-at, turns-at, inputs-at, inputs-fed}
-use Rattle.views.specs.View.{Sound}
+use Rattle.rules.proofs.SceneLaws.{judged-good, opaque-at, declared-at, turns-at, inputs-at, inputs-fed}
+use Rattle.views.specs.inner.View.{Sound}
 use Rattle.views.proofs.SoundLaws.{read-makes-sure}
 use Rattle.views.proofs.TableLaws.{property-none, property-some, no-kind}
 use Rattle.faults.specs.Fault.{Any, unknown, n15, Fault}
@@ -363,7 +363,7 @@ module _ (total : ℕ) (head : List ℕ) (f : File) (good : GoodFile total head 
   stop-met {i} {p} r =
       let l : i < length (f .items) = rw length-map at (r .listed) in
       let m = picture-met i l (drawn-image i (r .drawn)) in
-      let g = good-picture s (accepted-good total head f is-judged) (r .listed) (r .drawn) in
+      let g = good-picture s (judged-good total head f is-judged) (r .listed) (r .drawn) in
       record {
         met = m;
         sized = met-sized i m;

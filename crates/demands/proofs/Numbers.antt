@@ -9,7 +9,9 @@ use mathlib.Core.Bool.{true}
 use lib.ListN.{length}
 use Rattle.boxes.specs.Answer.{Answer, refuse}
 use Rattle.boxes.specs.Answer as Ans
-use Rattle.contents.specs.File.{File, readFile}
+use Rattle.contents.specs.File.{File}
+use Rattle.contents.specs.Breaks.{Broken}
+use Rattle.contents.proofs.BreakLaws.{read-broken, broken-read}
 use Rattle.pictures.specs.declared.Point.{Point}
 use Rattle.rules.specs.Rules.{judged}
 use Rattle.rules.specs.Opening as Opening
@@ -38,6 +40,7 @@ use Rattle.demands.proofs.NumberLaws.{
   only-more,
   within,
   among-more,
+  Placed,
   placed-number,
   placed-where,
   placed-room,
@@ -60,20 +63,24 @@ module _ (list : List ℕ) (f : File) (id : ℕ) (h : Among list 21) where
     only-ok
 
 module _ (total : ℕ) (head : List ℕ) where
-  pub reading-number : (n p : ℕ) → readFile total head ≡ refuse n p → Among readingNumbers n
-  reading-number n p e = placed-number (read-only total head .by n p e)
+  -- where its first fault of 2 to 11 lies is where reading is refused
+  placed : (n p : ℕ) → Broken total head n p → Placed total head n p
+  placed n p h = read-only total head .by n p (broken-read total head n p h)
+
+  pub reading-number : (n p : ℕ) → Broken total head n p → Among readingNumbers n
+  reading-number n p h = placed-number (placed n p h)
 
   -- the column "Place" of 2 to 11: 0, or a box
-  pub reading-place : (n p : ℕ) → readFile total head ≡ refuse n p →
+  pub reading-place : (n p : ℕ) → Broken total head n p →
       (Among zeroPlaced n → p ≡ 0) × (Among boxPlaced n → BoxAt total head p)
-  reading-place n p e = placed-where (read-only total head .by n p e)
+  reading-place n p h = placed-where (placed n p h)
 
   -- a box begins, header and all, within the head
   pub box-in-head : (p : ℕ) → BoxAt total head p → p + 8 ≤ length head
   box-in-head p b = box-room b
 
-  pub reading-in-head : (n p : ℕ) → readFile total head ≡ refuse n p → p ≤ length head
-  reading-in-head n p e = placed-room (read-only total head .by n p e)
+  pub reading-in-head : (n p : ℕ) → Broken total head n p → p ≤ length head
+  reading-in-head n p h = placed-room (placed n p h)
 
   fault-number : (f : File) (k : Number) → Among judgingNumbers (ruleOf total head f k .number)
   fault-number f n12 = refl
@@ -93,7 +100,7 @@ module _ (total : ℕ) (head : List ℕ) where
   unfolding Opening.opened Opening.accepted
   opened-only words = do
     only-check 1 0 _ refl
-    f ← record { by = λ n p e. among-more readingNumbers fileNumbers refl n (reading-number n p e) }
+    f ← record { by = λ n p e. among-more readingNumbers fileNumbers refl n (reading-number n p (read-broken total head n p e)) }
     record { by = λ n p e. among-more judgingNumbers fileNumbers refl n (judging-number f n p e) }
     only-ok
 

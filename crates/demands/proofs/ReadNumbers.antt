@@ -13,14 +13,14 @@ use Rattle.boxes.specs.Answer.{Answer, ok}
 use Rattle.boxes.specs.Box.{kindOf}
 use Rattle.boxes.specs.Children.{once, ofKind, firstOr, placeOf}
 use Rattle.boxes.specs.Types.{meta, hdlr, pitm, iinf, iloc, iprp, iref, known}
-use Rattle.boxes.specs.Top.{Look, short, bad, past, good, Spot, look, branded, byKind, byLook, walkN, byFirst, metaIn}
+use Rattle.boxes.specs.Top.{Look, short, bad, past, good, PlacedBox, look, branded, byKind, byLook, walkN, byFirst, metaIn}
 use Rattle.boxes.proofs.AnswerLaws.{check-ok}
 use Rattle.boxes.proofs.BoxLaws.{front-box, front-kind}
 use Rattle.boxes.proofs.ChildLaws.{children-sound}
 use Rattle.boxes.proofs.TopLaws.{Seen, closed, open-end, look-seen, meta-sound}
 use Rattle.contents.specs.Iinf.{Item, infe-step, items}
-use Rattle.contents.specs.Ipco.{held, property}
-use Rattle.contents.specs.Iprp.{pairOf, shown}
+use Rattle.contents.specs.Ipco.{good-content, property-step}
+use Rattle.contents.specs.Iprp.{pairOf, iprp-content}
 use Rattle.contents.specs.Iref.{Derivation, reference, references}
 use Rattle.contents.specs.File.{referred, contentsOf, fileOf, readFile}
 use Rattle.contents.proofs.PropertyLaws.{any-sound}
@@ -79,14 +79,14 @@ use Rattle.demands.proofs.FormNumbers.{
 
 -- the top level
 module _ {total : ℕ} {head : List ℕ} where
-  kind-only : (t : Bool) (k : ℕ → ℕ → List ℕ → Answer Spot) (at n : ℕ) (s : List ℕ) (m : ℕ) → eqb (kindOf s) meta ≡ t →
+  kind-only : (t : Bool) (k : ℕ → ℕ → List ℕ → Answer PlacedBox) (at n : ℕ) (s : List ℕ) (m : ℕ) → eqb (kindOf s) meta ≡ t →
       ((kindOf s ≡ meta → ⊥) → Only (Placed total head) (k (at + m) (n - m) (drop m s))) →
       Only (Placed total head) (byKind t k at n s m)
   unfolding byKind
   kind-only true k at n s m e h = only-ok
   kind-only false k at n s m e h = h (eqb-false (kindOf s) meta e)
 
-  look-only : (k : ℕ → ℕ → List ℕ → Answer Spot) →
+  look-only : (k : ℕ → ℕ → List ℕ → Answer PlacedBox) →
       ((at n : ℕ) (s : List ℕ) → length s ≤ n → Each total head Passed s at → Only (Placed total head) (k at n s)) →
       (at n : ℕ) (s : List ℕ) (l : Look) → Seen n s l → look n s ≡ l → length s ≤ n → Each total head Passed s at →
       Only (Placed total head) (byLook k at n s l)
@@ -151,14 +151,14 @@ module _ {total : ℕ} {head : List ℕ} where
   items-only p at s i c = lead-only count-reads p s i at (λ u r v j x. c u r j (count-opens u v x))
       (λ n a r l. exactly-only infe-only p n a [] r i (content-each l))
 
-  held-only : (k p : ℕ) (s : List ℕ) → BoxAt total head p → Only (Placed total head) (held k p s)
-  unfolding held
+  held-only : (k p : ℕ) (s : List ℕ) → BoxAt total head p → Only (Placed total head) (good-content k p s)
+  unfolding good-content
   held-only k p s i = only-pick _ (whole-only ispe-reads p s i)
       (only-pick _ (whole-only (bytes-reads 32) p s i) (only-pick _ (whole-only (bytes-reads 1) p s i) only-ok))
 
   property-only : (at : ℕ) (before : List (List ℕ)) (b : List ℕ) → BoxAt total head at →
-      Only (Placed total head) (property at before b)
-  unfolding property
+      Only (Placed total head) (property-step at before b)
+  unfolding property-step
   property-only at before b i = only-check 9 at _ (at-box refl i) >> (held-only _ at _ i >> only-ok)
 
   pair-only : (p : ℕ) (bs : List (List ℕ)) → BoxAt total head p → Only (Placed total head) (pairOf p bs)
@@ -169,8 +169,8 @@ module _ {total : ℕ} {head : List ℕ} where
   pair-only p (a ∷ b ∷ c ∷ cs) i = only-refuse (at-box refl i)
 
   shown-only : (ids : List ℕ) (p at : ℕ) (s : List ℕ) → BoxAt total head p → Content total head iprp at s →
-      Only (Placed total head) (shown ids p at s)
-  unfolding shown
+      Only (Placed total head) (iprp-content ids p at s)
+  unfolding iprp-content
   shown-only ids p at s i c =
       from (contain-only (λ a z b l. only-ok) p at [] s i (content-each c)) (λ bs e.
       let k = any-sound p at s bs e in

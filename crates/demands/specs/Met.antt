@@ -26,7 +26,7 @@ use Rattle.boxes.specs.Types.{ispe, image}
 use Rattle.boxes.specs.Box.{kindOf, bodyOf, IsBox}
 use Rattle.forms.specs.Form.{Form}
 use Rattle.contents.specs.Iinf.{Item}
-use Rattle.contents.specs.Ipco.{ispe-form, Held}
+use Rattle.contents.specs.Ipco.{ispe-form, GoodContent}
 use Rattle.contents.specs.Ipma.{Association}
 use Rattle.contents.specs.File.{File}
 use Rattle.pictures.specs.declared.Size.{Size}
@@ -49,11 +49,11 @@ pub record Stands {A : Type 0} (l : List A) (n : ℕ) (x : A) : Type 0 where
 abbrev pub HasIndex : File → ℕ → List ℕ → Type 0
 HasIndex f k b = (1 ≤ k) × Stands (f .properties) (k - 1) b
 
--- "Index 0 names nothing; marked essential it is 11." Any other index is that of a box, and (`Held`) "Content: `ispe`
+-- "Index 0 names nothing; marked essential it is 11." Any other index is that of a box, and (`GoodContent`) "Content: `ispe`
 -- version 0, 12 bytes; `clap` 32; `irot` (lowest two bits) and `imir` (lowest bit) 1"
 pub data There (f : File) (a : Association) : Type 0 where
   names-nothing : a .index ≡ 0 → a .essential ≡ false → There f a
-  names-box : (b : List ℕ) → HasIndex f (a .index) b → IsBox b → Held (kindOf b) (bodyOf b) → There f a
+  names-box : (b : List ℕ) → HasIndex f (a .index) b → IsBox b → GoodContent (kindOf b) (bodyOf b) → There f a
 
 -- of every box that has its index: it is of another type
 abbrev pub NoIspe : File → Association → Type 0

@@ -13,8 +13,8 @@ use Rattle.fields.proofs.FieldLaws.{both, pick-yes, pick-no}
 use Rattle.pictures.specs.Scene.{Scene, pictureAt}
 use Rattle.pictures.specs.Depth.{largest, depthBy, depthN, depth}
 use Rattle.pictures.proofs.DepthLaws.{depth-rule}
-use Rattle.depths.specs.Inputs.{InputsAre}
-use Rattle.depths.specs.Rounds.{inputs, inputAt, at, deepest, nextDepth, rounds, capped, Above, Low, Deepened}
+use Rattle.depths.specs.inner.Inputs.{InputsAre}
+use Rattle.depths.specs.inner.Rounds.{inputs, inputAt, at, deepest, nextDepth, rounds, capped, Above, Low, Deepened}
 use Rattle.depths.proofs.InputLaws.{input-inside}
 
 -- deepest

@@ -20,11 +20,11 @@ use Rattle.rules.specs.Bytes.{Store, storeOf, goodMethod, goodLengths, within, 
 use Rattle.rules.specs.Joined.{locationOf, itemAt}
 use Rattle.rules.specs.Places.{Places, fileOffset}
 use Rattle.rules.specs.Rules.{rule13-14, hasBytes}
-use Rattle.records.specs.Raw.{capped}
-use Rattle.views.specs.View.{TableOf, recordWord, idOf, noExtent}
+use Rattle.records.specs.inner.Raw.{capped}
+use Rattle.views.specs.inner.View.{TableOf, recordWord, idOf, noExtent}
 use Rattle.views.proofs.TableLaws.{row-small}
 use Rattle.views.proofs.ViewLaws.{extents-each, capped-same}
-use Rattle.derived.specs.Told.{bodyOr}
+use Rattle.derived.specs.inner.Told.{bodyOr}
 
 -- a part of a front
 take-front : (n k m : ℕ) (s : List ℕ) → k + n ≤ m → take n (drop k (take m s)) ≡ take n (drop k s)

@@ -15,10 +15,10 @@ use Rattle.contents.specs.File.{File}
 use Rattle.rules.specs.Joined.{targetsOf, rowOf, itemAt}
 use Rattle.rules.specs.Places.{Places}
 use Rattle.rules.specs.Derivations.{allImages}
-use Rattle.views.specs.View.{TableOf, recordWord, idOf}
+use Rattle.views.specs.inner.View.{TableOf, recordWord, idOf}
 use Rattle.views.proofs.LookupLaws.{row-listed}
 use Rattle.views.proofs.TableLaws.{row-small, test-read}
-use Rattle.derived.specs.Told.{Resolved}
+use Rattle.derived.specs.inner.Told.{Resolved}
 
 -- Resolved
 abbrev pub ResolvedTo : List ℕ → List ℕ → File → ℕ → Type 0

@@ -18,18 +18,18 @@ use Rattle.forms.specs.Form.{whole}
 use Rattle.contents.specs.Iinf.{Item}
 use Rattle.contents.specs.File.{File}
 use Rattle.pictures.specs.Recipe.{Recipe, Coded, Copy, Opaque, Tiles, Layers, Grid, Overlay, fieldBytes, grid-form, iovl-form}
-use Rattle.pictures.specs.Told.{toldGrid, toldOverlay}
+use Rattle.pictures.specs.inner.Told.{toldGrid, toldOverlay}
 use Rattle.pictures.specs.declared.GridRead.the-variants as tiles
 use Rattle.pictures.specs.declared.OverlayRead.the-variants as layers
 use Rattle.pictures.proofs.RefusedLaws.{Refused, refused-ok}
 use Rattle.pictures.proofs.GridLaws.{grid-length, told-grid, told-no-grid}
 use Rattle.pictures.proofs.OverlayLaws.{iovl-length, told-overlay, told-no-overlay}
 use Rattle.rules.specs.Joined.{locationOf, targetsOf}
-use Rattle.rules.specs.Derivations.{nothingIn, allImages, bodyOf, copyOf, tilesOf, layersOf, recipeFor, asRule17, recipeOf}
+use Rattle.rules.specs.Derivations.{nothingIn, allImages, itsBody, copyOf, tilesOf, layersOf, recipeFor, asRule17, recipeOf}
 use Rattle.rules.specs.Rules.{rule17}
-use Rattle.views.specs.Told.{faultOf}
+use Rattle.views.specs.inner.Told.{faultOf}
 use Rattle.rules.proofs.DerivationLaws.{nothing-none, nothing-some, body-read, rule-17-ok}
-use Rattle.derived.specs.Told.{bodyOr, derivationFor, toldDerivation}
+use Rattle.derived.specs.inner.Told.{bodyOr, derivationFor, toldDerivation}
 use Rattle.derived.specs.declared.Derivation.{Derivation}
 use Rattle.derived.specs.declared.Derivation.the-variants as made
 
@@ -87,16 +87,16 @@ no-overlay : (n : ℕ) → Refused (whole (iovl-form n) 0 [])
 no-overlay n = iovl-length 0 [] n (fieldBytes (beAt [] 1 1)) refl (λ e. omega arith)
 
 -- tilesOf, b being the body
-module _ (total : ℕ) (head : List ℕ) (f : File) (item : Item) (b : List ℕ) (body : b ≡ bodyOr (bodyOf total head f item)) where
+module _ (total : ℕ) (head : List ℕ) (f : File) (item : Item) (b : List ℕ) (body : b ≡ bodyOr (itsBody total head f item)) where
   abbrev tile : Grid → Answer Recipe
   tile g = check 17 (item .id) (eqb (length (targetsOf f (item .id))) (g .rows * g .columns)) >> ok (Tiles g)
 
-  grid-same : toldGrid (whole grid-form 0 b) ≡ toldGrid (whole grid-form 0 (bodyOr (bodyOf total head f item)))
+  grid-same : toldGrid (whole grid-form 0 b) ≡ toldGrid (whole grid-form 0 (bodyOr (itsBody total head f item)))
   grid-same = rw (← body)
 
   pub tiles-wrong : tiles.Wrong ≡ toldGrid (whole grid-form 0 b) → made.Wrong ≡ toldDerivation (tilesOf total head f item)
   unfolding tilesOf
-  tiles-wrong e = sym (read-refused (whole grid-form 0) no-grid tile (bodyOf total head f item) (told-no-grid _ (sym (e ∙ grid-same))))
+  tiles-wrong e = sym (read-refused (whole grid-form 0) no-grid tile (itsBody total head f item) (told-no-grid _ (sym (e ∙ grid-same))))
 
   module _ (r c w h : ℕ) (e : tiles.Is r c w h ≡ toldGrid (whole grid-form 0 b)) where
     abbrev read-tiles : Recipe
@@ -105,7 +105,7 @@ module _ (total : ℕ) (head : List ℕ) (f : File) (item : Item) (b : List ℕ)
     tiles-told : toldDerivation (tilesOf total head f item) ≡ toldDerivation
         (check 17 (item .id) (eqb (length (targetsOf f (item .id))) (r * c)) >> ok read-tiles)
     unfolding tilesOf
-    tiles-told = read-ok (whole grid-form 0) no-grid tile (bodyOf total head f item) _ (told-grid _ r c w h (sym (e ∙ grid-same)))
+    tiles-told = read-ok (whole grid-form 0) no-grid tile (itsBody total head f item) _ (told-grid _ r c w h (sym (e ∙ grid-same)))
 
     module _ (n : ℕ) (counted : n ≡ length (targetsOf f (item .id))) where
       pub tiles-is : n ≡ r * c → made.Tiles r c w h ≡ toldDerivation (tilesOf total head f item)
@@ -143,17 +143,17 @@ module _ (total : ℕ) (head : List ℕ) (f : File) (item : Item) (n : ℕ) (cou
   unfolding layersOf
   layers-none e = sym (read-never (whole (iovl-form (length (targetsOf f (item .id)))) 0) (no-overlay _) lay
       (λ o. checked-no 17 (item .id) _ (ok (Layers o)) (le-ltb 0 (length (targetsOf f (item .id))) (omega arith)))
-      (bodyOf total head f item))
+      (itsBody total head f item))
 
-  module _ (b : List ℕ) (body : b ≡ bodyOr (bodyOf total head f item)) where
-    overlay-same : toldOverlay b (whole (iovl-form n) 0 b) ≡ toldOverlay (bodyOr (bodyOf total head f item))
-        (whole (iovl-form (length (targetsOf f (item .id)))) 0 (bodyOr (bodyOf total head f item)))
+  module _ (b : List ℕ) (body : b ≡ bodyOr (itsBody total head f item)) where
+    overlay-same : toldOverlay b (whole (iovl-form n) 0 b) ≡ toldOverlay (bodyOr (itsBody total head f item))
+        (whole (iovl-form (length (targetsOf f (item .id)))) 0 (bodyOr (itsBody total head f item)))
     overlay-same = rw (← body, ← counted)
 
     pub layers-wrong : layers.Wrong ≡ toldOverlay b (whole (iovl-form n) 0 b) → made.Wrong ≡ toldDerivation (layersOf total head f item)
     unfolding layersOf
     layers-wrong e = sym (read-refused (whole (iovl-form (length (targetsOf f (item .id)))) 0) (no-overlay _) lay
-        (bodyOf total head f item) (told-no-overlay _ _ (sym (e ∙ overlay-same))))
+        (itsBody total head f item) (told-no-overlay _ _ (sym (e ∙ overlay-same))))
 
     pub layers-is : (w h k : ℕ) → layers.Is w h k ≡ toldOverlay b (whole (iovl-form n) 0 b) → (n ≡ 0 → ⊥) →
         made.Layers w h ≡ toldDerivation (layersOf total head f item)
@@ -161,7 +161,7 @@ module _ (total : ℕ) (head : List ℕ) (f : File) (item : Item) (n : ℕ) (cou
     layers-is w h k e some =
         let o = told-overlay _ _ w h k (sym (e ∙ overlay-same)) in
         sym
-        (read-ok (whole (iovl-form (length (targetsOf f (item .id)))) 0) (no-overlay _) lay (bodyOf total head f item) (o .overlay) (o .is)
+        (read-ok (whole (iovl-form (length (targetsOf f (item .id)))) 0) (no-overlay _) lay (itsBody total head f item) (o .overlay) (o .is)
         ∙ checked-yes 17 (item .id) _ (ok (Layers (o .overlay))) (lt-ltb 0 (length (targetsOf f (item .id))) (omega (arith, some)))
         ∙ rw (o .wide, o .high))
 

@@ -15,10 +15,10 @@ use Rattle.pictures.specs.declared.Size.{Size}
 use Rattle.pictures.specs.declared.Turn.{Turn}
 use Rattle.pictures.specs.Turn.{sizeAfter}
 use Rattle.pictures.specs.Decode.{transform, turnOf, turnsOf}
-use Rattle.pictures.specs.Told.{Sized, turnBy}
+use Rattle.pictures.specs.inner.Told.{LongAsAsked, turnBy}
 use Rattle.rules.specs.Joined.{associationsOf, boxesOf, typesOf}
 use Rattle.rules.specs.Places.{Places}
-use Rattle.views.specs.View.{TableOf}
+use Rattle.views.specs.inner.View.{TableOf}
 use Rattle.declared.proofs.NamedLaws.{types-many}
 use Rattle.declared.proofs.SizeLaws.{boxes-left, kind-said, turn-read}
 use Rattle.facing.specs.declared.Facing.{Facing}
@@ -64,7 +64,7 @@ module _ {t head : List ℕ} {pl : Places} {f : File} (v : TableOf t head pl f) 
     faced-skip q = (clear-here, λ s. h .1 s ∙ ap chainFacing (sym (ap (turnsOf s) (boxes-left v id j l k e) ∙ pick-no _ _ (ap transform (sym kind-here) ∙ q))))
 
     -- b is the box, c its content and u what it does to a picture of size z
-    pub faced-turn : (b c : List ℕ) → b ≡ here → c ≡ bodyOf b → (z : Size) (u : Turn) → transform k ≡ true → (Sized k c → u ≡ turnBy z k c)
+    pub faced-turn : (b c : List ℕ) → b ≡ here → c ≡ bodyOf b → (z : Size) (u : Turn) → transform k ≡ true → (LongAsAsked k c → u ≡ turnBy z k c)
         → (a r : Facing) → a ≡ turnFacing u → r ≡ joinedFacing a m → FacedFrom (boxesOf f id) j r
     unfolding turnsOf chainFacing
     faced-turn b c eb ec z u q o a r ea er =

@@ -19,7 +19,7 @@ use Rattle.rules.specs.Joined.{boxesOf, typesOf}
 use Rattle.rules.specs.Derivations.{sceneOf}
 use Rattle.rules.specs.Opening.{pictured}
 use Rattle.rules.proofs.SceneLaws.{turns-at}
-use Rattle.views.specs.View.{idOf}
+use Rattle.views.specs.inner.View.{idOf}
 use Rattle.asked.specs.Told.{toldPictured}
 use Rattle.asked.specs.declared.Pictured.the-variants as pictures
 use Rattle.asked.proofs.PicturedLaws.{picture-listed, picture-image, picture-id, pictured-refused, pictured-row}

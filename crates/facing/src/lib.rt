@@ -7,7 +7,7 @@ ghost use Rattle.contents.specs.File.{File};
 ghost use Rattle.pictures.specs.declared.Size as Sizes;
 ghost use Rattle.rules.specs.Places.{Places};
 ghost use Rattle.rules.specs.Derivations.{sceneOf};
-ghost use Rattle.views.specs.View.{TableOf, idOf};
+ghost use Rattle.views.specs.inner.View.{TableOf, idOf};
 ghost use Rattle.facing.specs.Facings.{flipped, turnFacing, joinedFacing};
 ghost use Rattle.facing.specs.Facings as Facings;
 ghost use Rattle.facing.specs.Orientation.{orientationIn, transformsIn};

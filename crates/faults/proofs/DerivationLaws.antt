@@ -15,7 +15,8 @@ use Rattle.fields.proofs.TestLaws.{untrue, or-either}
 use Rattle.boxes.specs.Answer.{Answer, ok, refuse, check, _>>=_, _>>_}
 use Rattle.boxes.specs.Types.{iden, grid, iovl, derived, image, coded}
 use Rattle.boxes.proofs.AnswerLaws.{bind-ok, ok-bind, then-ok, ok-then, check-ok, ok-check, ok-inj}
-use Rattle.forms.specs.Form.{Form, whole, whole-sound, whole-complete}
+use Rattle.forms.specs.Form.{Form, whole}
+use Rattle.forms.proofs.WholeLaws.{whole-sound, whole-complete}
 use Rattle.contents.specs.Iinf.{Item}
 use Rattle.contents.specs.Iloc.{Extent, Location}
 use Rattle.contents.specs.File.{File}

@@ -17,7 +17,7 @@ use Rattle.contents.specs.File.{File}
 use Rattle.rules.specs.Joined.{noItem}
 use Rattle.rules.specs.Rules.{inOrder}
 use Rattle.faults.specs.Fault.{Rule, Number, ruleOf, Fault}
-use Rattle.faults.specs.Order.{Earlier, turnOf}
+use Rattle.faults.specs.Order.{Earlier, orderOf}
 use Rattle.faults.proofs.TellsLaws.{Tells}
 
 -- check
@@ -31,34 +31,34 @@ module _ (total : ℕ) (head : List ℕ) (f : File) where
   F n r = Fault total head f n r
 
   abbrev T : Number → ℕ → List ℕ
-  T n r = turnOf total head f n r
+  T n r = orderOf total head f n r
 
   abbrev rule : Number → Rule
   rule n = ruleOf total head f n
 
   -- Earlier: what it says of two turns, number by number
   module _ (n : Number) (r : ℕ) (m : Number) (q : ℕ) where
-    pub turn-stage : Earlier (T n r) (T m q) → rule n .stage ≤ rule m .stage
-    turn-stage (inl l) = omega arith
-    turn-stage (inr e) = omega (arith, e .0)
+    pub order-stage : Earlier (T n r) (T m q) → rule n .stage ≤ rule m .stage
+    order-stage (inl l) = omega arith
+    order-stage (inr e) = omega (arith, e .0)
 
-    pub turn-lap : rule m .stage ≤ rule n .stage → Earlier (T n r) (T m q) → rule n .lap r ≤ rule m .lap q
-    turn-lap h (inl l) = absurd (omega arith)
-    turn-lap h (inr (e, inl l)) = omega arith
-    turn-lap h (inr (e, inr x)) = omega (arith, x .0)
+    pub order-lap : rule m .stage ≤ rule n .stage → Earlier (T n r) (T m q) → rule n .lap r ≤ rule m .lap q
+    order-lap h (inl l) = absurd (omega arith)
+    order-lap h (inr (e, inl l)) = omega arith
+    order-lap h (inr (e, inr x)) = omega (arith, x .0)
 
-    pub turn-row : rule m .stage ≤ rule n .stage → rule m .lap q ≤ rule n .lap r → Earlier (T n r) (T m q) → r ≤ q
-    turn-row h k (inl l) = absurd (omega arith)
-    turn-row h k (inr (e, inl l)) = absurd (omega arith)
-    turn-row h k (inr (e, inr (d, inl l))) = omega arith
-    turn-row h k (inr (e, inr (d, inr x))) = omega (arith, x .0)
+    pub order-row : rule m .stage ≤ rule n .stage → rule m .lap q ≤ rule n .lap r → Earlier (T n r) (T m q) → r ≤ q
+    order-row h k (inl l) = absurd (omega arith)
+    order-row h k (inr (e, inl l)) = absurd (omega arith)
+    order-row h k (inr (e, inr (d, inl l))) = omega arith
+    order-row h k (inr (e, inr (d, inr x))) = omega (arith, x .0)
 
-    pub turn-number : q ≤ r → Earlier (T n r) (T m q) → rule m .stage ≤ rule n .stage → rule m .lap q ≤ rule n .lap r → rule n .number < rule m .number
-    turn-number g (inl l) h k = absurd (omega arith)
-    turn-number g (inr (e, inl l)) h k = absurd (omega arith)
-    turn-number g (inr (e, inr (d, inl l))) h k = absurd (omega arith)
-    turn-number g (inr (e, inr (d, inr (c, inl l)))) h k = l
-    turn-number g (inr (e, inr (d, inr (c, inr x)))) h k = absurd (x .1)
+    pub order-number : q ≤ r → Earlier (T n r) (T m q) → rule m .stage ≤ rule n .stage → rule m .lap q ≤ rule n .lap r → rule n .number < rule m .number
+    order-number g (inl l) h k = absurd (omega arith)
+    order-number g (inr (e, inl l)) h k = absurd (omega arith)
+    order-number g (inr (e, inr (d, inl l))) h k = absurd (omega arith)
+    order-number g (inr (e, inr (d, inr (c, inl l)))) h k = l
+    order-number g (inr (e, inr (d, inr (c, inr x)))) h k = absurd (x .1)
 
   pub record Finds (In : Number → ℕ → Type 0) (k p : ℕ) : Type 0 where
     pub number : Number
@@ -116,7 +116,7 @@ module _ (total : ℕ) (head : List ℕ) (f : File) where
   just-apart n m r hs hl hn a b c d i j y =
       let x : Earlier (T m r) (T n r) = subst (λ (l : List ℕ). Earlier l (T n r)) (just-turn m r c d j)
       (subst (λ (l : List ℕ). Earlier (T c d) l) (just-turn n r a b i) y) in
-      let z = turn-number m r n r (omega arith) x hs hl in
+      let z = order-number m r n r (omega arith) x hs hl in
       omega arith
 
   -- nothing to find
@@ -219,7 +219,7 @@ module _ (total : ℕ) (head : List ℕ) (f : File) where
           let l : rule n .lap r ≡ rule m .lap q = wa .lap-is n r a ∙ sym (wb .lap-is m q (b .2)) in
           let ra = wa .row-is n r a in
           let rb = wb .row-is m q (b .2) in
-          let z = turn-row m q n r (omega arith) (omega arith) y in
+          let z = order-row m q n r (omega arith) (omega arith) y in
           omega arith
 
       to : (n : Number) (r : ℕ) → In k n r ⊎ Rows In (suc k) (length is) n r → Rows In k (suc (length is)) n r

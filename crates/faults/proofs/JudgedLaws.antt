@@ -26,15 +26,15 @@ use Rattle.rules.specs.Joined.{locationOf, boxesOf, typesOf, noItem, itemAt}
 use Rattle.rules.specs.Derivations.{sceneOf}
 use Rattle.rules.specs.Rules.{inOrder, byDepth, rule12, rule13-14, rule15-16, rule17, rule18, rule19, rule20, judged}
 use Rattle.rules.proofs.SceneLaws.{turns-at}
-use Rattle.faults.specs.Fault.{Rule, Number, n12, n13, n14, n15, n16, n17, n18, n19, n20, sourceOf, ruleOf, Fault}
-use Rattle.faults.specs.Order.{Earlier, turnOf, First}
+use Rattle.faults.specs.Fault.{Rule, Number, n12, n13, n14, n15, n16, n17, n18, n19, n20, storeFor, ruleOf, Fault}
+use Rattle.faults.specs.Order.{Earlier, orderOf, First}
 use Rattle.faults.proofs.TellsLaws.{Tells, tells-as, tells-not, tells-most}
 use Rattle.faults.proofs.FaultLaws.{tells-primary, tells-place, tells-bytes, tells-readable, tells-ispe}
 use Rattle.faults.proofs.DerivationLaws.{rule-17-there, rule-17-absent}
 use Rattle.faults.proofs.SizeLaws.{tells-sizes}
 use Rattle.faults.proofs.FirstLaws.{
-  turn-stage,
-  turn-lap,
+  order-stage,
+  order-lap,
   Finds,
   Examines,
   Just,
@@ -155,7 +155,7 @@ module _ (total : ℕ) (head : List ℕ) (f : File) where
     placed-examined =
         examines-then total head f _ _ (J n13 r) (J n14 r) (just-apart total head f n13 n14 r (omega arith) (omega arith) (omega arith))
         (examines-check total head f n13 r _ (told n13 r l (tells-place (locationOf f (itemAt f r .id)))))
-        (examines-check total head f n14 r _ (told n14 r l (tells-bytes (sourceOf total head f r) (locationOf f (itemAt f r .id)) (itemAt f r .type))))
+        (examines-check total head f n14 r _ (told n14 r l (tells-bytes (storeFor total head f r) (locationOf f (itemAt f r .id)) (itemAt f r .type))))
 
     -- no fault of image items in an opaque one's row
     opaque-two : image (itemAt f r .type) ≡ false → (m : Number) (q : ℕ) → Two n15 n16 r m q → F m q → ⊥
@@ -221,7 +221,7 @@ module _ (total : ℕ) (head : List ℕ) (f : File) where
       (depths-examined n (suc d)))
     where
       apart : (a : Number) (r : ℕ) (m : Number) (q : ℕ) → Stage (At d) a r → Laps n (suc d) m q →
-          Earlier (turnOf total head f m q) (turnOf total head f a r) → ⊥
+          Earlier (orderOf total head f m q) (orderOf total head f a r) → ⊥
       apart a r m q i j y =
           let x = at-within d (0 + i .0) in
           let z = at-within (suc d + j .0) (0 + j .2 .0) in
@@ -229,7 +229,7 @@ module _ (total : ℕ) (head : List ℕ) (f : File) where
           let zs = z .stage-is m q (j .2 .2) in
           let xl = x .lap-is a r (i .2) in
           let zl = z .lap-is m q (j .2 .2) in
-          let h = turn-lap total head f m q a r (omega arith) y in
+          let h = order-lap total head f m q a r (omega arith) y in
           omega arith
 
       to : (m : Number) (q : ℕ) → Stage (At d) m q ⊎ Laps n (suc d) m q → Laps (suc n) d m q
@@ -260,7 +260,7 @@ module _ (total : ℕ) (head : List ℕ) (f : File) where
       IsStage k B → Ex (a >> b) (λ n r. A n r ⊎ B n r) × Below (suc k) (λ n r. A n r ⊎ B n r)
   next-stage k a b A B x y st = (
     examines-then total head f a b A B
-        (λ n r m q i j e. let h = turn-stage total head f m q n r e in let g = x .1 n r i in let z = st m q j in
+        (λ n r m q i j e. let h = order-stage total head f m q n r e in let g = x .1 n r i in let z = st m q j in
         omega arith) (x .0) y,
     low,
   )
@@ -348,16 +348,16 @@ module _ (total : ℕ) (head : List ℕ) (f : File) where
       x : Finds total head f Asked k p
       x = judged-examined .first k p e
 
-      by : (m : Number) (q : ℕ) → Earlier (turnOf total head f m q) (turnOf total head f (x .number) (x .row)) → F m q →
+      by : (m : Number) (q : ℕ) → Earlier (orderOf total head f m q) (orderOf total head f (x .number) (x .row)) → F m q →
           Asked m q ⊎ ((m ≡ n20) × (16 < depth s q)) → ⊥
       by m q y w (inl i) = x .none-before m q i y w
       by m q y w (inr d) =
           let st = ap (λ (m : Number). ruleOf total head f m .stage) (d .0) in
           let la = ap (λ (m : Number). ruleOf total head f m .lap q) (d .0) in
-          let a = turn-stage total head f m q (x .number) (x .row) y in
+          let a = order-stage total head f m q (x .number) (x .row) y in
           let b = shallow (x .number) (x .row) (x .among) (omega arith) in
           let low = last-stage (x .number) (x .row) (x .among) in
-          let c = turn-lap total head f m q (x .number) (x .row) (omega arith) y in
+          let c = order-lap total head f m q (x .number) (x .row) (omega arith) y in
           let z = d .1 in
           omega arith
 
@@ -370,11 +370,11 @@ module _ (total : ℕ) (head : List ℕ) (f : File) where
       by (refuse k p) e = let x = judged-first k p e in absurd (none (x .0) (x .1) (x .2 .present))
 
   pub one-first : (n : Number) (r : ℕ) (m : Number) (q : ℕ) → First total head f n r → First total head f m q → (n ≡ m) × (r ≡ q)
-  one-first n r m q x y = by (ordered (turnOf total head f n r) (turnOf total head f m q) refl)
+  one-first n r m q x y = by (ordered (orderOf total head f n r) (orderOf total head f m q) refl)
     where
-      by : Earlier (turnOf total head f n r) (turnOf total head f m q) ⊎
-          ((turnOf total head f n r ≡ turnOf total head f m q) ⊎
-          Earlier (turnOf total head f m q) (turnOf total head f n r)) → (n ≡ m) × (r ≡ q)
+      by : Earlier (orderOf total head f n r) (orderOf total head f m q) ⊎
+          ((orderOf total head f n r ≡ orderOf total head f m q) ⊎
+          Earlier (orderOf total head f m q) (orderOf total head f n r)) → (n ≡ m) × (r ≡ q)
       by (inl e) = absurd (y .none-before n r e (x .present))
       by (inr (inl e)) = (one-number total head f n m (ap (λ (l : List ℕ). getD l 3 0) e), ap (λ (l : List ℕ). getD l 2 0) e)
       by (inr (inr e)) = absurd (x .none-before m q e (y .present))

@@ -126,16 +126,16 @@ pub data Number : Type 0 where
 
 -- 12 is a fault of the file and not of a row: it stands at row 0. 18: "item derived from itself". 19: "depth over 16".
 module _ (total : ℕ) (head : List ℕ) (f : File) where
-  abbrev pub sourceOf : ℕ → Store
-  sourceOf r = storeOf total head f (locationOf f (itemAt f r .id) .method)
+  abbrev pub storeFor : ℕ → Store
+  storeFor r = storeOf total head f (locationOf f (itemAt f r .id) .method)
 
   abbrev pub ruleOf : Number → Rule
   ruleOf n12 = record { number = 12; stage = 0; lap = λ r. 0; rows = 1; place = λ r. f .primary; Wrong = λ r. PrimaryWrong f }
   ruleOf n13 = ofItems f 13 1 (λ r. WrongPlace (locationOf f (itemAt f r .id)))
-  ruleOf n14 = ofItems f 14 1 (λ r. WrongBytes (sourceOf r) (locationOf f (itemAt f r .id)) (itemAt f r .type))
+  ruleOf n14 = ofItems f 14 1 (λ r. WrongBytes (storeFor r) (locationOf f (itemAt f r .id)) (itemAt f r .type))
   ruleOf n15 = ofItems f 15 2 (λ r. (image (itemAt f r .type) ≡ true) × NotReadable f (itemAt f r))
   ruleOf n16 = ofItems f 16 2 (λ r. (image (itemAt f r .type) ≡ true) × WrongIspe (typesOf f (itemAt f r .id)))
-  ruleOf n17 = ofItems f 17 3 (λ r. WrongDerivation f (sourceOf r) (locationOf f (itemAt f r .id)) (itemAt f r .type) (targetsOf f (itemAt f r .id)))
+  ruleOf n17 = ofItems f 17 3 (λ r. WrongDerivation f (storeFor r) (locationOf f (itemAt f r .id)) (itemAt f r .type) (targetsOf f (itemAt f r .id)))
   ruleOf n18 = ofItems f 18 4 (λ r. Derives (sceneOf total head f) r r)
   ruleOf n19 = ofItems f 19 5 (λ r. 16 < depth (sceneOf total head f) r)
   ruleOf n20 =

@@ -1,13 +1,13 @@
 -- Demand 2.
 --   GoodFile total head f      without reading: f is a structure that the bytes spell (2 to 11), and it has no fault (12 to 20)
--- Refused total head n p     where it is refused: reading is, by 2 to 11 in the order of reading; or the bytes spell a
--- file, and the refusal is its first fault of 12 to 20
+--   Refused total head n p     where it is refused: its first fault of 2 to 11, which the bytes show; or the bytes spell a file,
+--                              and the refusal is its first fault of 12 to 20
 use Prim.Native.Nat.{ℕ}
 use mathlib.Core.Path.{_≡_}
 use mathlib.Core.List.{List}
-use Rattle.boxes.specs.Answer.{refuse}
-use Rattle.contents.specs.File.{File, readFile}
+use Rattle.contents.specs.File.{File}
 use Rattle.contents.specs.Keeps.{FileIn}
+use Rattle.contents.specs.Breaks.{Broken}
 use Rattle.faults.specs.Fault.{Rule, Number, ruleOf, Fault}
 use Rattle.faults.specs.Order.{First}
 
@@ -16,6 +16,6 @@ pub record GoodFile (total : ℕ) (head : List ℕ) (f : File) : Type 0 where
   pub no-fault : (n : Number) (r : ℕ) → Fault total head f n r → ⊥
 
 pub data Refused (total : ℕ) (head : List ℕ) (n p : ℕ) : Type 0 where
-  unread : readFile total head ≡ refuse n p → Refused total head n p
+  unread : Broken total head n p → Refused total head n p
   at-fault : (f : File) (k : Number) (r : ℕ) → FileIn total head f → First total head f k r →
       n ≡ ruleOf total head f k .number → p ≡ ruleOf total head f k .place r → Refused total head n p

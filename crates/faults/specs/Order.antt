@@ -1,5 +1,5 @@
 -- Which fault is given: document 01, "first fault given".
---   turnOf total head f n r    when the fault n of the item in row r has its turn: its stage; for 20 the depth; the row; the number
+--   orderOf total head f n r    when the fault n of the item in row r has its turn: its stage; for 20 the depth; the row; the number
 --   Earlier a b                a comes before b: the first number in which they differ is smaller
 --   First total head f n r     the fault is there, and none that has its turn before it
 use Prim.Native.Nat.{ℕ, _<_}
@@ -14,13 +14,13 @@ Earlier [] ys = ⊥
 Earlier (x ∷ xs) [] = ⊥
 Earlier (x ∷ xs) (y ∷ ys) = (x < y) ⊎ ((x ≡ y) × Earlier xs ys)
 
-abbrev pub turnBy : Rule → ℕ → List ℕ
-turnBy u r = u .stage ∷ u .lap r ∷ r ∷ u .number ∷ []
+abbrev pub orderBy : Rule → ℕ → List ℕ
+orderBy u r = u .stage ∷ u .lap r ∷ r ∷ u .number ∷ []
 
 module _ (total : ℕ) (head : List ℕ) (f : File) where
-  abbrev pub turnOf : Number → ℕ → List ℕ
-  turnOf n r = turnBy (ruleOf total head f n) r
+  abbrev pub orderOf : Number → ℕ → List ℕ
+  orderOf n r = orderBy (ruleOf total head f n) r
 
   pub record First (n : Number) (r : ℕ) : Type 0 where
     pub present : Fault total head f n r
-    pub none-before : (m : Number) (q : ℕ) → Earlier (turnOf m q) (turnOf n r) → Fault total head f m q → ⊥
+    pub none-before : (m : Number) (q : ℕ) → Earlier (orderOf m q) (orderOf n r) → Fault total head f m q → ⊥

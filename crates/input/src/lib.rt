@@ -1,7 +1,7 @@
 // What the programs over `still` begin with: standard input as a head and a total, and a table to lend.
 ghost use mathlib.Core.Path.{_≡_};
 ghost use lib.ListN.{length};
-ghost use Rattle.input.specs.Within.{AtLeast, Within};
+ghost use Rattle.input.specs.inner.Within.{AtLeast, Within};
 
 // A table of just the words that a file needs.
 pub fn new_table() -> [u32; 11280]

@@ -14,7 +14,7 @@ use Rattle.items.specs.declared.CountRead.{CountRead}
 use Rattle.items.specs.declared.CountRead.the-variants as count
 use Rattle.items.specs.declared.ItemsRead.{ItemsRead}
 use Rattle.items.specs.declared.ItemsRead.the-variants as read
-use Rattle.items.specs.Told.{toldItems, ItemsLeft, CountIs, Stored}
+use Rattle.items.specs.inner.Told.{toldItems, ItemsLeft, CountIs, Stored}
 use Rattle.items.proofs.FillLaws.{stored-refused}
 
 -- items

@@ -13,9 +13,9 @@ use Rattle.boxes.specs.declared.Refusal.{Refusal}
 use Rattle.boxes.proofs.AnswerLaws.{ok-inj}
 use Rattle.contents.specs.Iinf.{Item, idsOf, infe-step}
 use Rattle.rules.specs.Places.{Places}
-use Rattle.records.specs.Raw.{unread, rawOf}
-use Rattle.records.specs.Rows.{idAt, idsIn, slotOf}
-use Rattle.records.specs.Stage.{Kept, withItems}
+use Rattle.records.specs.inner.Raw.{unread, rawOf}
+use Rattle.records.specs.inner.Rows.{idAt, idsIn, slotOf}
+use Rattle.records.specs.inner.Stage.{Kept, withItems}
 use Rattle.records.proofs.RawLaws.{raw-item}
 use Rattle.items.specs.declared.Bounds.{Bounds}
 use Rattle.items.specs.declared.Info.{Info}
@@ -23,7 +23,7 @@ use Rattle.items.specs.declared.NextItem.{NextItem}
 use Rattle.items.specs.declared.NextItem.the-variants as next
 use Rattle.items.specs.declared.ItemsRead.{ItemsRead}
 use Rattle.items.specs.declared.ItemsRead.the-variants as read
-use Rattle.items.specs.Told.{toldItems, itemOf, NextIs, Between, rowPut, slotPut, Stored}
+use Rattle.items.specs.inner.Told.{toldItems, itemOf, NextIs, Between, rowPut, slotPut, Stored}
 use Rattle.items.proofs.TableLaws.{put-kept, put-below, put-id, put-ids, slot-length, slot-filled, slot-still}
 use Rattle.items.proofs.StepLaws.{exactlyFrom, exactly-end, exactly-left}
 

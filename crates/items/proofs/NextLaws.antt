@@ -8,7 +8,7 @@ use borrow.Author.Tests.{eq-eqb, ne-eqb}
 use Rattle.boxes.specs.Answer.{Answer, ok, refuse, check, _>>=_, _>>_}
 use Rattle.boxes.specs.Types.{infe}
 use Rattle.boxes.specs.Box.{kindOf, bodyOf}
-use Rattle.boxes.specs.Header.{childAt}
+use Rattle.boxes.specs.inner.Header.{childAt}
 use Rattle.boxes.specs.declared.Refusal.{Refusal}
 use Rattle.boxes.specs.declared.Child.the-variants as child
 use Rattle.boxes.proofs.ContainLaws.{Stood, stood, stood-body}
@@ -18,7 +18,7 @@ use Rattle.items.specs.declared.Info.{Info}
 use Rattle.items.specs.declared.InfeRead.{InfeRead}
 use Rattle.items.specs.declared.InfeRead.the-variants as read
 use Rattle.items.specs.declared.NextItem.the-variants as next
-use Rattle.items.specs.Told.{itemOf, toldInfe, InfeIs, NextIs}
+use Rattle.items.specs.inner.Told.{itemOf, toldInfe, InfeIs, NextIs}
 use Rattle.items.proofs.StepLaws.{exactly-box, exactly-bad, exactly-spare, exactly-none}
 
 -- toldInfe: what the code's value says of the answer

@@ -10,7 +10,7 @@ use Rattle.contents.specs.Iloc.{extentsIn}
 use Rattle.contents.specs.Ipma.{associationsIn}
 use Rattle.contents.specs.Iref.{targetsIn}
 use Rattle.contents.proofs.ItemLaws.{items-sound}
-use Rattle.records.specs.Stage.{Ready, withItems}
+use Rattle.records.specs.inner.Stage.{Ready, withItems}
 use Rattle.contents.proofs.LimitLaws.{items-few}
 use Rattle.records.proofs.BoundLaws.{items-distinct}
 

@@ -13,7 +13,7 @@ use Rattle.fields.proofs.FieldLaws.{both}
 use Rattle.boxes.specs.Answer.{Answer, ok, refuse, _>>=_}
 use Rattle.boxes.specs.Box.{sizeOf, starts}
 use Rattle.boxes.specs.Exactly.{ended, oneBy, exactly}
-use Rattle.boxes.specs.Header.{childAt}
+use Rattle.boxes.specs.inner.Header.{childAt}
 use Rattle.boxes.specs.declared.Child.{Child}
 use Rattle.boxes.specs.declared.Child.the-variants as child
 use Rattle.boxes.proofs.ContainLaws.{Stood}

@@ -10,11 +10,11 @@ use lib.Dec.{eqb}
 use borrow.Author.Tests.{eqb-true, eqb-false}
 use Rattle.fields.specs.Lists.{member}
 use Rattle.contents.specs.Iinf.{Item, idsOf}
-use Rattle.records.specs.Rows.{idAt, idsIn, slotOf}
-use Rattle.records.specs.Stage.{Kept}
+use Rattle.records.specs.inner.Rows.{idAt, idsIn, slotOf}
+use Rattle.records.specs.inner.Stage.{Kept}
 use Rattle.records.proofs.IdLaws.{ids-same, row-missing}
 use Rattle.items.specs.declared.Bounds.{Bounds}
-use Rattle.items.specs.Told.{Filling, rowPut, slotPut}
+use Rattle.items.specs.inner.Told.{Filling, rowPut, slotPut}
 
 -- an ID above or below all of them is new, and one whose remainder none has left
 module _ (t : List ℕ) (n id : ℕ) where

@@ -17,21 +17,21 @@ use Rattle.rules.specs.Places.{Places, placesIn}
 use Rattle.rules.specs.Derivations.{sceneOf}
 use Rattle.rules.specs.Rules.{goodPrimary, inOrder, rule12, rule15-16, judged}
 use Rattle.rules.specs.Words.{wordsOf}
-use Rattle.records.specs.Raw.{Bounded}
-use Rattle.records.specs.Rows.{Rowed}
+use Rattle.records.specs.inner.Raw.{Bounded}
+use Rattle.records.specs.inner.Rows.{Rowed}
 use Rattle.records.specs.declared.FoundRow.the-variants.{At}
-use Rattle.views.specs.View.{TableOf, AllPlaced, AllFed}
+use Rattle.views.specs.inner.View.{TableOf, AllPlaced, AllFed}
 use Rattle.views.proofs.LookupLaws.{told-at, found-told}
 use Rattle.views.proofs.ViewLaws.{read-view, raw-judging, placed-view}
 use Rattle.views.proofs.FillLaws.{filled-none, filled-all, filled-target, words-sized}
-use Rattle.depths.specs.Inputs.{InputsAre}
-use Rattle.derived.specs.Told.{Resolved}
-use Rattle.sizing.specs.Drawn.{Drawn}
-use Rattle.sizing.specs.Told.{toldFilled}
+use Rattle.depths.specs.inner.Inputs.{InputsAre}
+use Rattle.derived.specs.inner.Told.{Resolved}
+use Rattle.sizing.specs.inner.Drawn.{Drawn}
+use Rattle.sizing.specs.inner.Told.{toldFilled}
 use Rattle.sizing.specs.declared.Filled.{Filled}
 use Rattle.sizing.specs.declared.Filled.the-variants as filled
 use Rattle.records.proofs.BoundLaws.{read-bounds}
-use Rattle.judging.specs.Order.{ruleBy, restJudged, picturesJudged, Early, toldJudged, Read, RestBy, JudgedBy}
+use Rattle.judging.specs.inner.Order.{ruleBy, restJudged, picturesJudged, Early, toldJudged, Read, RestBy, JudgedBy}
 use Rattle.judging.specs.declared.Rule.the-variants.{Placed, Derived}
 use Rattle.judging.specs.declared.Judged.{Judged}
 use Rattle.judging.specs.declared.Judged.the-variants.{Good, Refused}

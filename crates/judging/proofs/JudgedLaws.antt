@@ -18,10 +18,10 @@ use Rattle.rules.specs.Places.{placesIn}
 use Rattle.rules.specs.Derivations.{sceneOf}
 use Rattle.rules.specs.Rules.{inOrder, byDepth}
 use Rattle.rules.proofs.RuleLaws.{in-order-each}
-use Rattle.views.specs.View.{AllPlaced, AllFed, recordWord}
-use Rattle.depths.specs.Inputs.{InputsAre}
-use Rattle.sizing.specs.Drawn.{Drawn}
-use Rattle.judging.specs.Order.{ruleBy, picturesJudged, NoneDeeper, toldJudged}
+use Rattle.views.specs.inner.View.{AllPlaced, AllFed, recordWord}
+use Rattle.depths.specs.inner.Inputs.{InputsAre}
+use Rattle.sizing.specs.inner.Drawn.{Drawn}
+use Rattle.judging.specs.inner.Order.{ruleBy, picturesJudged, NoneDeeper, toldJudged}
 use Rattle.judging.specs.declared.Rule.{Rule}
 use Rattle.judging.specs.declared.Rule.the-variants.{Placed, Derived, Itself, Deep}
 use Rattle.judging.specs.declared.Judged.the-variants.{Good, Refused}

@@ -20,7 +20,7 @@ use Rattle.pictures.specs.Scene.{Scene, pictureAt, goodSizes}
 use Rattle.pictures.specs.Depth.{depth}
 use Rattle.rules.specs.Joined.{itemAt}
 use Rattle.rules.specs.Rules.{inOrder, rule20, byDepth}
-use Rattle.judging.specs.Order.{toldJudged}
+use Rattle.judging.specs.inner.Order.{toldJudged}
 use Rattle.judging.specs.declared.Judged.the-variants.{Good, Refused}
 use Rattle.judging.proofs.JudgedLaws.{kept-all, refused-at}
 

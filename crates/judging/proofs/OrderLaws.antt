@@ -12,11 +12,11 @@ use Rattle.rules.specs.Joined.{itemAt}
 use Rattle.rules.specs.Derivations.{asRule17}
 use Rattle.rules.specs.Rules.{rule13-14, rule17, rule18, rule19}
 use Rattle.rules.specs.Places.{placesIn}
-use Rattle.views.specs.View.{TableOf}
-use Rattle.views.specs.Told.{faultOf}
+use Rattle.views.specs.inner.View.{TableOf}
+use Rattle.views.specs.inner.Told.{faultOf}
 use Rattle.sizing.proofs.OrderLaws.{Blames, check-blames, then-blames}
 use Rattle.sizing.proofs.OrderLaws as orders
-use Rattle.judging.specs.Order.{ruleBy, Ready, toldJudged}
+use Rattle.judging.specs.inner.Order.{ruleBy, Ready, toldJudged}
 use Rattle.judging.specs.declared.Rule.{Rule}
 use Rattle.judging.specs.declared.Rule.the-variants.{Placed, Derived, Itself, Deep}
 use Rattle.judging.specs.declared.Judged.the-variants.{Good, Refused}

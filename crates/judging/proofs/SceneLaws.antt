@@ -23,12 +23,12 @@ use Rattle.rules.specs.Derivations.{recipeFor, pictureOf, sceneOf}
 use Rattle.rules.specs.Rules.{rule17, rule18, rule19}
 use Rattle.rules.proofs.DerivationLaws.{nothing-in, rule-17-ok}
 use Rattle.rules.proofs.SceneLaws.{picture-at, inputs-at}
-use Rattle.views.specs.View.{TableOf, AllFed, recordWord, idOf}
-use Rattle.views.specs.Told.{faultOf}
+use Rattle.views.specs.inner.View.{TableOf, AllFed, recordWord, idOf}
+use Rattle.views.specs.inner.Told.{faultOf}
 use Rattle.views.proofs.LookupLaws.{row-listed}
-use Rattle.depths.specs.Inputs.{InputsAre}
-use Rattle.derived.specs.Told.{Resolved}
-use Rattle.sizing.specs.Drawn.{Drawn}
+use Rattle.depths.specs.inner.Inputs.{InputsAre}
+use Rattle.derived.specs.inner.Told.{Resolved}
+use Rattle.sizing.specs.inner.Drawn.{Drawn}
 use Rattle.fields.proofs.ListLaws.{map-at}
 
 all-map : (P : ℕ → Type 0) (g : ℕ → ℕ) (l : List ℕ) → ((j : ℕ) → j < length l → P (g (getD l j 0))) → All P (map g l)

@@ -1,3 +1,1 @@
-pub mod Pose
-pub mod Part
-pub mod Margins
+pub mod inner

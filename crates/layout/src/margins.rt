@@ -3,7 +3,7 @@ ghost use mathlib.Core.Path.{_≡_};
 ghost use Prim.Native.Nat.{_+_, _-_, _≤_};
 ghost use Rattle.pictures.specs.Turn.{Fits};
 ghost use Rattle.pictures.specs.declared.Turn.the-variants.{Crop};
-ghost use Rattle.layout.specs.Margins.{margins, marginsAfter};
+ghost use Rattle.layout.specs.inner.Margins.{margins, marginsAfter};
 use pictures::Size;
 use pictures::Turn;
 

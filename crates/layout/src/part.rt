@@ -2,7 +2,7 @@
 ghost use Prim.Native.Nat.{_+_, _-_, _%_, _≤_};
 ghost use mathlib.Core.Path.{_≡_};
 ghost use lib.Dec.{eqb};
-ghost use Rattle.layout.specs.Part.{wholeOf, acrossOf, downOf};
+ghost use Rattle.layout.specs.inner.Part.{wholeOf, acrossOf, downOf};
 use crate::number::fewer;
 use crate::pose::Pose;
 use pictures::Size;

@@ -1,6 +1,6 @@
 // How pictures lie on the page.
 ghost use mathlib.Core.Path.{_≡_};
-ghost use Rattle.layout.specs.Pose.{poseOf, composedOf, uprightOf};
+ghost use Rattle.layout.specs.inner.Pose.{poseOf, composedOf, uprightOf};
 use pictures::Turn;
 
 // One of the eight ways in which a picture can lie: so many quarter turns to the left, and 4 more if it is mirrored before them.

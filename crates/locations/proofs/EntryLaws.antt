@@ -30,7 +30,7 @@ use Rattle.forms.proofs.StepLaws.{
   reads-more,
 }
 use Rattle.contents.specs.Iloc.{Extent, Location, locatedIn, extentsIn, extent-form}
-use Rattle.records.specs.Rows.{idAt, idsIn}
+use Rattle.records.specs.inner.Rows.{idAt, idsIn}
 use Rattle.records.proofs.IdLaws.{row-listed}
 use Rattle.locations.specs.declared.Widths.{Widths}
 use Rattle.locations.specs.declared.Rest.{Rest}
@@ -39,9 +39,9 @@ use Rattle.locations.specs.declared.EntryPut.{EntryPut}
 use Rattle.locations.specs.declared.EntryPut.the-variants as put
 use Rattle.locations.specs.declared.RowRead.the-variants as row
 use Rattle.locations.specs.declared.RestRead.the-variants as rest
-use Rattle.locations.specs.Parts.{
+use Rattle.locations.specs.inner.Parts.{
   Size,
-  Sized,
+  GoodWidths,
   new-form,
   rest-form,
   Lead,
@@ -69,7 +69,7 @@ reads-cut : {B : Type 0} (p : ℕ) (s : List ℕ) (at n : ℕ) (k : ℕ → List
 reads-cut p s at n k h f =
     elim (decLe (at + n) (length s)) [ yes l ↦ reads-field p s at n k l ∙ f l | no l ↦ reads-short p s at n k h (omega (arith, l)) ]
 
--- Sized: how wide a field is at most, and which width is left
+-- GoodWidths: how wide a field is at most, and which width is left
 pub method-most : (n : ℕ) → (n ≡ 0) ⊎ (n ≡ 2) → n ≤ 2
 method-most n (inl e) = omega arith
 method-most n (inr e) = omega arith
@@ -83,7 +83,7 @@ pub two : (n : ℕ) → (n ≡ 0) ⊎ (n ≡ 2) → (n ≡ 0 → ⊥) → n ≡ 
 two n (inl e) h = absurd (h e)
 two n (inr e) h = e
 
-pub each-most : (w : Widths) → Sized w → each w ≤ 24
+pub each-most : (w : Widths) → GoodWidths w → each w ≤ 24
 each-most w z = omega (arith, size-most (w .index) (z .index), size-most (w .offset) (z .offset), size-most (w .length) (z .length))
 
 -- rest-form

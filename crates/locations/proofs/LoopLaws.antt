@@ -15,9 +15,9 @@ use Rattle.contents.specs.Iloc.{Location, extentsIn, iloc-form}
 use Rattle.contents.specs.File.{File}
 use Rattle.rules.specs.Places.{Places}
 use Rattle.rules.specs.Words.{joinAll}
-use Rattle.records.specs.Raw.{Bounded, rawOf}
-use Rattle.records.specs.Rows.{idAt, idsIn, Distinct}
-use Rattle.records.specs.Stage.{Kept, Ready, withLocations}
+use Rattle.records.specs.inner.Raw.{Bounded, rawOf}
+use Rattle.records.specs.inner.Rows.{idAt, idsIn, Distinct}
+use Rattle.records.specs.inner.Stage.{Kept, Ready, withLocations}
 use Rattle.records.proofs.JoinLaws.{join-length}
 use Rattle.records.proofs.RawLaws.{raw-id, raw-location}
 use Rattle.records.proofs.IdLaws.{raw-ids}
@@ -25,8 +25,8 @@ use Rattle.records.proofs.KeptLaws.{kept-same, kept-on}
 use Rattle.locations.specs.declared.Widths.{Widths}
 use Rattle.locations.specs.declared.LocationsRead.{LocationsRead}
 use Rattle.locations.specs.declared.EntryPut.the-variants as put
-use Rattle.locations.specs.Told.{toldLocations, Unplaced, LocationsLeft}
-use Rattle.locations.specs.Parts.{entry-by, rowFrom, startOf, Located, PutHere, PutAre, EntriesLeft}
+use Rattle.locations.specs.inner.Told.{toldLocations, Unplaced, LocationsLeft}
+use Rattle.locations.specs.inner.Parts.{entry-by, rowFrom, startOf, Located, PutHere, PutAre, EntriesLeft}
 use Rattle.locations.proofs.TableLaws.{put-kept, put-ids, located-none, located-more}
 use Rattle.locations.proofs.PutLaws.{row-length, rows-raw}
 

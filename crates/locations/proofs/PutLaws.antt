@@ -17,12 +17,12 @@ use Rattle.fields.proofs.FieldLaws.{pick-yes, pick-no}
 use Rattle.contents.specs.Iloc.{Extent, Location}
 use Rattle.rules.specs.Places.{Places, fileOffset}
 use Rattle.rules.specs.Words.{joinAll, highLow}
-use Rattle.records.specs.Raw.{capped, extentRow}
+use Rattle.records.specs.inner.Raw.{capped, extentRow}
 use Rattle.records.proofs.JoinLaws.{join-snoc, join-same, join-length}
 use Rattle.records.proofs.SetsLaws.{sets-append}
 use Rattle.locations.specs.declared.Widths.{Widths}
 use Rattle.locations.specs.declared.Rest.{Rest}
-use Rattle.locations.specs.Parts.{each, extentAt, extentsAt, extentsBy, rowFrom, startOf, placeRow, StoredHere}
+use Rattle.locations.specs.inner.Parts.{each, extentAt, extentsAt, extentsBy, rowFrom, startOf, placeRow, StoredHere}
 use Rattle.locations.proofs.EntryLaws.{extents-count, extents-next}
 
 -- capped

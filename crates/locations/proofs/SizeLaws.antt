@@ -31,11 +31,11 @@ use Rattle.contents.specs.Full.{full, upto}
 use Rattle.contents.specs.Iloc.{fieldSize, iloc-form, entry-form}
 use Rattle.contents.proofs.FullLaws.{FullHere}
 use Rattle.locations.specs.declared.Widths.{Widths}
-use Rattle.locations.specs.Parts.{widthsBy, Size, Sized, Front, count-form, sizes-form, entry-by, SizesHere, SizesAre}
+use Rattle.locations.specs.inner.Parts.{widthsBy, Size, GoodWidths, Front, count-form, sizes-form, entry-by, SizesHere, SizesAre}
 use Rattle.locations.specs.declared.Sizes.{Sizes}
 
 -- an ID of 4 bytes
-pub four-wide : (w : Widths) → Sized w → (w .id ≡ 2 → ⊥) → w .id ≡ 4
+pub four-wide : (w : Widths) → GoodWidths w → (w .id ≡ 2 → ⊥) → w .id ≡ 4
 four-wide w z h = ⊎-elim (λ e. absurd (h e)) (λ e. e) (z .id)
 
 -- fieldSize
@@ -66,7 +66,7 @@ and-either false b e = inl refl
 
 -- widthsBy
 widths-sized : (v a b : ℕ) → (fieldSize (a / 16) && fieldSize (a % 16)) ≡ true →
-    (fieldSize (b / 16) && fieldSize (pick (eqb v 0) 0 (b % 16))) ≡ true → Sized (widthsBy v a b)
+    (fieldSize (b / 16) && fieldSize (pick (eqb v 0) 0 (b % 16))) ≡ true → GoodWidths (widthsBy v a b)
 unfolding pick
 widths-sized v a b e f =
     let x = and-both (fieldSize (a / 16)) _ e in
@@ -111,7 +111,7 @@ module _ (w : Widths) (p : ℕ) (s : List ℕ) (h : 6 ≤ length s) where
     count-many m =
         rw (read-reads, reads-bind) (reads-field p s 6 (w .id) _ (omega arith) ∙ rw (← e, reads-bind) (reads-no p (drop (6 + w .id) s) 9 _ _ (lt-leb _ _ m)))
 
-    pub count-here : Sized w → n ≤ 256 → SizesHere (count-form w .read p (drop 6 s)) s w n
+    pub count-here : GoodWidths w → n ≤ 256 → SizesHere (count-form w .read p (drop 6 s)) s w n
     unfolding count-form
     count-here z m =
         record {
@@ -173,7 +173,7 @@ module _ (v p : ℕ) (s : List ℕ) (h : 4 ≤ length s) where
           pub sizes-count : (o : Sizes) → SizesAre (count-form w .read p (drop 6 s)) s o → SizesAre (sizes-form v .read p (drop 4 s)) s o
           sizes-count o h = subst (λ (x : Answer (Got Front)). SizesAre x s o) (sym count-read) h
 
-          pub sizes-sized : Sized w
+          pub sizes-sized : GoodWidths w
           sizes-sized = rw ew (widths-sized v a b e (rw ew at f))
 
 -- iloc-form: the front, and then the entries

@@ -19,9 +19,9 @@ use Rattle.forms.proofs.StepLaws.{read-reads, reads-bind, reads-yes, reads-no}
 use Rattle.contents.specs.Iloc.{Location, locatedIn, extentsIn}
 use Rattle.contents.specs.File.{File}
 use Rattle.rules.specs.Places.{Places}
-use Rattle.records.specs.Raw.{rawOf}
-use Rattle.records.specs.Rows.{idAt, idsIn, Distinct, FoundIs}
-use Rattle.records.specs.Stage.{Kept, Ready}
+use Rattle.records.specs.inner.Raw.{rawOf}
+use Rattle.records.specs.inner.Rows.{idAt, idsIn, Distinct, FoundIs}
+use Rattle.records.specs.inner.Stage.{Kept, Ready}
 use Rattle.records.specs.declared.FoundRow.the-variants.{At, Nothing}
 use Rattle.records.proofs.MemberLaws.{member-last, member-other}
 use Rattle.records.proofs.RawLaws.{raw-located}
@@ -30,8 +30,8 @@ use Rattle.table.specs.declared.ItemRow.{ItemRow}
 use Rattle.contents.proofs.SumLaws.{extents-more, located-in}
 use Rattle.records.proofs.IdLaws.{ids-same, row-listed, row-missing, raw-ids, distinct-rows}
 use Rattle.records.proofs.KeptLaws.{kept-on, kept-sets}
-use Rattle.locations.specs.Told.{Unplaced}
-use Rattle.locations.specs.Parts.{Located, RowAre, new-form}
+use Rattle.locations.specs.inner.Told.{Unplaced}
+use Rattle.locations.specs.inner.Parts.{Located, RowAre, new-form}
 use Rattle.locations.specs.declared.RowRead.the-variants as row
 
 -- the table of a file that has no entry: no item has one

@@ -12,12 +12,12 @@ ghost use Rattle.fields.specs.Field.{beAt};
 ghost use Rattle.forms.specs.Form.{many, whole};
 ghost use Rattle.contents.specs.Iloc.{fieldSize, iloc-form};
 ghost use Rattle.rules.specs.Words.{joinAll, highLow};
-ghost use Rattle.records.specs.Raw.{capped};
-ghost use Rattle.records.specs.Rows.{idsIn};
-ghost use Rattle.locations.specs.Told.{toldLocations, Unplaced, LocationsLeft};
-ghost use Rattle.locations.specs.Parts.{
+ghost use Rattle.records.specs.inner.Raw.{capped};
+ghost use Rattle.records.specs.inner.Rows.{idsIn};
+ghost use Rattle.locations.specs.inner.Told.{toldLocations, Unplaced, LocationsLeft};
+ghost use Rattle.locations.specs.inner.Parts.{
   widthsBy,
-  Sized,
+  GoodWidths,
   sizes-form,
   count-form,
   SizesAre,
@@ -148,7 +148,7 @@ fn read_sizes(s: &[u8], version: u32, place: u64) -> Sizes
 }
 
 fn read_count(s: &[u8], w: Widths, place: u64) -> Sizes
-    requires { ⌜ (6 ≤ length (now s)) × Sized w ⌝ }
+    requires { ⌜ (6 ≤ length (now s)) × GoodWidths w ⌝ }
     ensures { λ r. ⌜ SizesAre (count-form w .read place (drop 6 (now (s .entry)))) (now (s .entry)) r ⌝ }
 {
     let wide = w.id;
@@ -214,7 +214,7 @@ fn read_method(s: &[u8], at: usize, m: usize) -> u32
 
 // Method, data reference, base offset, count of extents.
 fn read_rest(s: &[u8], at: usize, w: Widths, place: u64, used: usize) -> RestRead
-    requires { ⌜ (at ≤ length (now s)) × Sized w × (used ≤ 512) ⌝ }
+    requires { ⌜ (at ≤ length (now s)) × GoodWidths w × (used ≤ 512) ⌝ }
     ensures { λ r. ⌜ RestAre w used place (now (s .entry)) at r ⌝ }
 {
     let m = w.method;
@@ -254,7 +254,7 @@ fn read_entry(
     slots: &[u32],
     used: usize,
 ) -> EntryRead
-    requires { ⌜ (at ≤ length (now s)) × Sized w × (used ≤ 512) × (n ≤ 256) × (11280 ≤ length (now table)) ⌝ }
+    requires { ⌜ (at ≤ length (now s)) × GoodWidths w × (used ≤ 512) × (n ≤ 256) × (11280 ≤ length (now table)) ⌝ }
     ensures { λ r. ⌜ EntryAre (now (table .entry)) n w used place (now (s .entry)) at r ⌝ }
 {
     let wide = w.id;
@@ -314,7 +314,7 @@ fn put_extent(table: &mut [u32], number: usize, offset: u64, size: u64)
 
 // k extents from a place on, all of them there, as the extents from a number on; each counts from `start`.
 fn put_extents(s: &[u8], at: usize, w: Widths, k: usize, start: u64, table: &mut [u32], used: usize)
-    requires { ⌜ (at + k * each w ≤ length (now s)) × Sized w × (used + k ≤ 512) × (11280 ≤ length (now table)) ⌝ }
+    requires { ⌜ (at + k * each w ≤ length (now s)) × GoodWidths w × (used + k ≤ 512) × (11280 ≤ length (now table)) ⌝ }
     ensures { λ _. ⌜ now (table .exit) ≡ sets (now (table .entry)) (9232 + 4 * used) (joinAll (rowFrom start) (extentsBy w (now (s .entry)) at k)) ⌝ }
 {
     let i = w.index;
@@ -367,7 +367,7 @@ fn put_rest(
     used: usize,
     idat: u64,
 ) -> EntryPut
-    requires { ⌜ (at ≤ length (now s)) × Sized w × (used + x .extents ≤ 512) × (row .0 < 256) × (11280 ≤ length (now table)) ⌝ }
+    requires { ⌜ (at ≤ length (now s)) × GoodWidths w × (used + x .extents ≤ 512) × (row .0 < 256) × (11280 ≤ length (now table)) ⌝ }
     ensures { λ r. ⌜ StoredAre w (now (s .entry)) at place (now (table .entry)) (now (table .exit)) (row .0) x used idat r ⌝ }
 {
     let i = w.index;
@@ -401,7 +401,7 @@ fn put_entry(
     used: usize,
     idat: u64,
 ) -> EntryPut
-    requires { ⌜ (at ≤ length (now s)) × Sized w × (used ≤ 512) × (n ≤ 256) × (11280 ≤ length (now table)) ⌝ }
+    requires { ⌜ (at ≤ length (now s)) × GoodWidths w × (used ≤ 512) × (n ≤ 256) × (11280 ≤ length (now table)) ⌝ }
     ensures { λ r. ⌜ PutAre (now (table .entry)) (now (table .exit)) n w used place (now (s .entry)) at idat r ⌝ }
 {
     let r = read_entry(s, at, w, place, &*table, n, hope, slots, used);
@@ -431,7 +431,7 @@ fn put_entries(
     slots: &[u32],
     idat: u64,
 ) -> LocationsRead
-    requires { ⌜ (from ≤ length (now s)) × Sized w × (n ≤ 256) × (11280 ≤ length (now table)) × Unplaced (now table) n ⌝ }
+    requires { ⌜ (from ≤ length (now s)) × GoodWidths w × (n ≤ 256) × (11280 ≤ length (now table)) × Unplaced (now table) n ⌝ }
     ensures { λ r. ⌜ r ≡ toldLocations (whole (many (entry-by (idsIn (now (table .entry)) n) w) count []) place (drop from (now (s .entry)))) ⌝ }
     ensures { λ _. ⌜ EntriesLeft (whole (many (entry-by (idsIn (now (table .entry)) n) w) count []) place
         (drop from (now (s .entry)))) n idat (now (table .entry)) (now (table .exit)) ⌝ }

@@ -10,10 +10,10 @@ use lib.ListN.{length, getD, replicate}
 use Rattle.pictures.specs.Scene.{Scene}
 use Rattle.pictures.specs.Depth.{Derives, from, over, derivesItself}
 use Rattle.pictures.proofs.DepthLaws.{itself-derives}
-use Rattle.depths.specs.Inputs.{InputsAre}
-use Rattle.depths.specs.Rounds.{inputs, inputAt}
-use Rattle.marks.specs.Marks.{Marked, Bits, Among, IsInput, Spread}
-use Rattle.marks.specs.Grounds.{Grounded, Ground}
+use Rattle.depths.specs.inner.Inputs.{InputsAre}
+use Rattle.depths.specs.inner.Rounds.{inputs, inputAt}
+use Rattle.marks.specs.inner.Marks.{Marked, Bits, Among, IsInput, Spread}
+use Rattle.marks.specs.inner.Grounds.{Grounded, Ground}
 use Rattle.depths.proofs.InputLaws.{member-inside}
 use Rattle.marks.proofs.MemberLaws.{member-input}
 use Rattle.marks.proofs.MarkLaws.{grown-same, grown-both, unmarked}

@@ -20,9 +20,9 @@ use Rattle.pictures.specs.Scene.{Scene, pictureAt}
 use Rattle.pictures.specs.Depth.{Derives, from, over, reaches, derivesItself, depth}
 use Rattle.pictures.specs.Sources.{needs}
 use Rattle.pictures.proofs.DepthLaws.{reaches-derives, derives-reaches, shallow-reaches, itself-derives, derives-itself}
-use Rattle.depths.specs.Inputs.{InputsAre}
-use Rattle.depths.specs.Rounds.{at, inputs, inputAt}
-use Rattle.marks.specs.Marks.{Marked, Bits, bare, Among, IsInput, InputOf, Passes, Grown, Spread, Reached, Listing, Closed}
+use Rattle.depths.specs.inner.Inputs.{InputsAre}
+use Rattle.depths.specs.inner.Rounds.{at, inputs, inputAt}
+use Rattle.marks.specs.inner.Marks.{Marked, Bits, bare, Among, IsInput, InputOf, Passes, Grown, Spread, Reached, Listing, Closed}
 use Rattle.depths.proofs.InputLaws.{member-inside}
 use Rattle.marks.proofs.MemberLaws.{input-member, member-input}
 use Rattle.depths.proofs.RoundLaws.{zeros}

@@ -8,8 +8,8 @@ use lib.ListN.{length}
 use Rattle.fields.specs.Lists.{member}
 use Rattle.fields.proofs.TestLaws.{member-at, member-place}
 use Rattle.pictures.specs.Scene.{Scene, pictureAt}
-use Rattle.depths.specs.Inputs.{InputsAre}
-use Rattle.marks.specs.Marks.{IsInput}
+use Rattle.depths.specs.inner.Inputs.{InputsAre}
+use Rattle.marks.specs.inner.Marks.{IsInput}
 
 -- an input by the table is one of the scene's
 module _ (t rows : List ℕ) (s : Scene) (i : InputsAre t rows s) (r : ℕ) (h : r < length s) where

@@ -8,9 +8,9 @@ ghost use lib.Dec.{eqb};
 ghost use Rattle.pictures.specs.Scene.{Scene};
 ghost use Rattle.pictures.specs.Depth.{depth, derivesItself};
 ghost use Rattle.pictures.specs.Sources.{needs};
-ghost use Rattle.depths.specs.Inputs.{InputsAre};
-ghost use Rattle.marks.specs.Marks.{Marked, Bits, bare, IsInput, InputOf, Spread, Reached, Listing, Closed};
-ghost use Rattle.marks.specs.Grounds.{Ground};
+ghost use Rattle.depths.specs.inner.Inputs.{InputsAre};
+ghost use Rattle.marks.specs.inner.Marks.{Marked, Bits, bare, IsInput, InputOf, Spread, Reached, Listing, Closed};
+ghost use Rattle.marks.specs.inner.Grounds.{Ground};
 use table::ItemRow;
 
 // Marks a row; whether it was not yet marked. A row past the last mark is left out.
@@ -203,7 +203,7 @@ fn all_marked(marks: &[u32], n: usize) -> bool
 }
 
 // Whether every row rests on pictures without inputs alone, so that none is derived from itself: marks spread from
-// inputs up, sweep by sweep, until nothing new is marked.
+// inputs up, sweep by sweep, until nothing new is marked. A hint: a no promises nothing, and costs only time.
 pub fn all_grounded(table: &[u32], rows: &[u32], n: usize) -> bool
     requires { ⌜ n ≤ 256 ⌝ }
     ensures { λ b. ⌜ (b ≡ true → (s : Scene) → length s ≡ n → InputsAre (now (table .entry)) (now (rows .entry)) s →

@@ -12,8 +12,8 @@ use lib.Dec.{eqb}
 use borrow.Author.Tests.{eq-eqb, ne-eqb}
 use Rattle.fields.proofs.FieldLaws.{pick-yes, pick-no}
 use Rattle.boxes.specs.Types.{coded}
-use Rattle.views.specs.View.{recordWord}
-use Rattle.needed.specs.Marked.{markedOf}
+use Rattle.views.specs.inner.View.{recordWord}
+use Rattle.needed.specs.inner.Marked.{markedOf}
 
 -- a value after the end of what is written
 store-end : (xs l : List ℕ) (v : ℕ) → length xs < length l → set (xs ++ drop (length xs) l) (length xs) v ≡ (xs ++ (v ∷ [])) ++ drop (suc (length xs)) l

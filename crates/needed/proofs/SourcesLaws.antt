@@ -25,8 +25,8 @@ use Rattle.rules.specs.Derivations.{copyOf, tilesOf, layersOf, recipeFor, pictu
 use Rattle.rules.specs.Rules.{rule17}
 use Rattle.rules.proofs.DerivationLaws.{rule-17-ok}
 use Rattle.rules.proofs.SceneLaws.{picture-at, opaque-at, recipe-ok}
-use Rattle.views.specs.View.{TableOf, AllFed, recordWord}
-use Rattle.needed.specs.Marked.{markedOf}
+use Rattle.views.specs.inner.View.{TableOf, AllFed, recordWord}
+use Rattle.needed.specs.inner.Marked.{markedOf}
 use Rattle.needed.proofs.MarkedLaws.{chosen}
 
 and-swap : (a b : Bool) → (a && b) ≡ (b && a)

@@ -7,8 +7,8 @@ ghost use mathlib.Core.Bool.{_&&_};
 ghost use lib.ListN.{length, getD, drop};
 ghost use lib.Dec.{eqb};
 ghost use Rattle.boxes.specs.Types.{coded};
-ghost use Rattle.views.specs.View.{recordWord};
-ghost use Rattle.needed.specs.Marked.{markedOf};
+ghost use Rattle.views.specs.inner.View.{recordWord};
+ghost use Rattle.needed.specs.inner.Marked.{markedOf};
 use table::ItemRow;
 
 // Whether the item in a row is coded and marked.

@@ -13,7 +13,7 @@ use Rattle.rules.specs.Places.{placesIn}
 use Rattle.rules.specs.Derivations.{sceneOf}
 use Rattle.rules.specs.Words.{tableWords, wordsOf}
 use Rattle.rules.specs.Opening.{accepted, opened, leftBy, after}
-use Rattle.views.specs.View.{TableOf, SizesAre}
+use Rattle.views.specs.inner.View.{TableOf, SizesAre}
 use Rattle.rules.proofs.RuleLaws.{accepted-both}
 use Rattle.views.proofs.ViewLaws.{words-view}
 use Rattle.views.proofs.FillLaws.{words-sized}

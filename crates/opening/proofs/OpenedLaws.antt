@@ -9,7 +9,7 @@ use lib.Seq.{drop-at}
 use lib.Dec.{leb}
 use borrow.Author.Tests.{leb-true, le-leb, le-ltb}
 use Rattle.fields.proofs.FieldLaws.{pick-yes, pick-no}
-use Rattle.table.specs.Clear.{cleared}
+use Rattle.table.specs.inner.Clear.{cleared}
 use Rattle.boxes.specs.Answer.{Answer, ok, refuse, check, _>>=_, _>>_}
 use Rattle.boxes.proofs.AnswerLaws.{then-ok, check-ok, ok-inj}
 use Rattle.boxes.specs.declared.Refusal.{Refusal}
@@ -18,17 +18,17 @@ use Rattle.rules.specs.Places.{placesIn}
 use Rattle.rules.specs.Rules.{judged}
 use Rattle.rules.specs.Words.{tableWords, headWords, wordsOf}
 use Rattle.rules.specs.Opening.{accepted, opened, leftBy, after}
-use Rattle.records.specs.Raw.{rawOf}
-use Rattle.records.specs.Rows.{Rowed}
+use Rattle.records.specs.inner.Raw.{rawOf}
+use Rattle.records.specs.inner.Rows.{Rowed}
 use Rattle.records.proofs.RawLaws.{raw-length}
-use Rattle.reading.specs.Parts.{toldFile, readAnswer, readWords}
-use Rattle.reading.specs.Parts as Parts
+use Rattle.reading.specs.inner.Parts.{toldFile, readAnswer, readWords}
+use Rattle.reading.specs.inner.Parts as Parts
 use Rattle.reading.specs.declared.FileRead.the-variants as read
-use Rattle.judging.specs.Order.{toldJudged, Read}
+use Rattle.judging.specs.inner.Order.{toldJudged, Read}
 use Rattle.judging.specs.declared.Judged.the-variants as judge
 use Rattle.records.proofs.BoundLaws.{read-bounds}
 use Rattle.rules.proofs.RuleLaws.{judged-each}
-use Rattle.derived.specs.Told.{Resolved}
+use Rattle.derived.specs.inner.Told.{Resolved}
 use Rattle.judging.proofs.JudgeLaws.{rowed-resolved, read-here, drawn}
 use Rattle.opening.specs.Told.{toldOpened}
 use Rattle.opening.specs.declared.Opened.the-variants.{Accepted, Refused}
@@ -70,7 +70,7 @@ module _ (total : ℕ) (head t : List ℕ) where
     unfolding after
     after-is = pick-yes _ _ (le-leb tableWords (length t) enough)
 
-    words-are : readWords total head t ≡ Parts.leftBy total head t (readFile total head)
+    words-are : readWords total head t ≡ Parts.leftByReading total head t (readFile total head)
     unfolding readWords
     words-are = pick-yes _ _ (le-leb tableWords (length t) enough)
 
@@ -85,8 +85,8 @@ module _ (total : ℕ) (head t : List ℕ) where
     unfolding accepted _>>=_
     refused g = rw g
 
-  left-nothing : (y : Refusal) → Parts.leftBy total head t (refuse (y .number) (y .place)) ≡ replicate 11280 0 ++ drop 11280 t
-  unfolding Parts.leftBy
+  left-nothing : (y : Refusal) → Parts.leftByReading total head t (refuse (y .number) (y .place)) ≡ replicate 11280 0 ++ drop 11280 t
+  unfolding Parts.leftByReading
   left-nothing y = refl
 
   short : leb tableWords (length t) ≡ false → readWords total head t ≡ after total head t
@@ -105,7 +105,7 @@ module _ (total : ℕ) (head t : List ℕ) where
           let h = leb-true tableWords (length t) q in
           let g : readFile total head ≡ refuse (y .number) (y .place) = sym (ap (λ (b : Bool). check 1 0 b >> readFile total head) q) ∙ r in
           let o = off h y (refused h g) in
-          (o .0, words-are h ∙ ap (Parts.leftBy total head t) g ∙ left-nothing y ∙ o .1)
+          (o .0, words-are h ∙ ap (Parts.leftByReading total head t) g ∙ left-nothing y ∙ o .1)
       by false q r =
           let g : refuse 1 0 ≡ refuse (y .number) (y .place) = sym (ap (λ (b : Bool). check 1 0 b >> readFile total head) q) ∙ r in
           (ap toldOpened (sym (ap (λ (b : Bool). check 1 0 b >> accepted total head) q ∙ g)), short q)
@@ -113,12 +113,12 @@ module _ (total : ℕ) (head t : List ℕ) where
   -- the file is read
   pub read-on : (i e : ℕ) (u : List ℕ) → readAnswer (length t) total head ≡ read.Is i e → u ≡ readWords total head t →
       (11280 ≤ length t) × ((f : File) × Read u head total e f (drop 11280 t))
-  unfolding readAnswer Parts.leftBy
+  unfolding readAnswer Parts.leftByReading
   read-on i e u h w =
       let m = told-read _ _ i e h in
       let c = then-ok _ _ (m .0) (m .1) in
       let l = leb-true tableWords (length t) (check-ok 1 0 _ (c .0) (c .1)) in
-      (l, (m .0, record { read = c .2; is = w ∙ words-are l ∙ ap (Parts.leftBy total head t) (c .2); ends = m .2 }))
+      (l, (m .0, record { read = c .2; is = w ∙ words-are l ∙ ap (Parts.leftByReading total head t) (c .2); ends = m .2 }))
 
   -- what lies behind the table is still there
   pub read-behind : (u x : List ℕ) (e : ℕ) (f : File) → Read u head total e f x → drop 11280 u ≡ x

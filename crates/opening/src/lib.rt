@@ -4,7 +4,7 @@ ghost use Prim.Native.Nat.{_≤_};
 ghost use lib.ListN.{length};
 ghost use Rattle.boxes.specs.Answer.{ok};
 ghost use Rattle.contents.specs.File.{File, readFile};
-ghost use Rattle.derived.specs.Told.{Resolved};
+ghost use Rattle.derived.specs.inner.Told.{Resolved};
 ghost use Rattle.opening.specs.declared.Opened.the-variants.{Accepted};
 ghost use Rattle.opening.specs.Told.{OpenedGiven};
 use boxes::Refusal;

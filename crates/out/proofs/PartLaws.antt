@@ -12,7 +12,7 @@ use Rattle.rules.specs.Joined.{propertyAt}
 use Rattle.rules.specs.Places.{Places, placesIn, propertyOffset}
 use Rattle.rules.specs.Words.{wordsOf}
 use Rattle.questions.specs.Questions.{partOf}
-use Rattle.views.specs.View.{TableOf}
+use Rattle.views.specs.inner.View.{TableOf}
 use Rattle.views.proofs.TableLaws.{property-none, property-some}
 use Rattle.views.proofs.StandLaws.{part-offset}
 use Rattle.out.specs.Out.{outPart}

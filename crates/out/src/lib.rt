@@ -9,7 +9,7 @@ ghost use Rattle.rules.specs.Places.{placesIn};
 ghost use Rattle.rules.specs.Words.{wordsOf};
 ghost use Rattle.questions.specs.Questions.{partOf};
 ghost use Rattle.questions.specs.Questions as Q;
-ghost use Rattle.views.specs.View.{TableOf};
+ghost use Rattle.views.specs.inner.View.{TableOf};
 ghost use Rattle.asked.specs.Told.{toldVerdict, toldSized};
 ghost use Rattle.traced.specs.Told.{toldTraced};
 ghost use Rattle.sourced.specs.Told.{toldListed};

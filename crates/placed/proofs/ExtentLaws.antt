@@ -18,8 +18,8 @@ use Rattle.contents.specs.File.{File}
 use Rattle.rules.specs.Bytes.{allExtents}
 use Rattle.rules.specs.Joined.{locationOf}
 use Rattle.rules.specs.Places.{Places, fileOffset}
-use Rattle.records.specs.Raw.{capped}
-use Rattle.views.specs.View.{TableOf, recordWord, idOf, noExtent}
+use Rattle.records.specs.inner.Raw.{capped}
+use Rattle.views.specs.inner.View.{TableOf, recordWord, idOf, noExtent}
 use Rattle.views.proofs.TableLaws.{row-small}
 
 -- allExtents: the test of all is that of those from j on, if those before j pass

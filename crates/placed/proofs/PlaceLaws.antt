@@ -18,8 +18,8 @@ use Rattle.rules.specs.Bytes.{Store, storeOf, allExtents, goodMethod, goodLengt
 use Rattle.rules.specs.Joined.{locationOf, itemAt}
 use Rattle.rules.specs.Places.{Places, fileOffset}
 use Rattle.rules.specs.Rules.{hasBytes, rule13-14}
-use Rattle.views.specs.View.{TableOf, Judging, recordWord, idOf}
-use Rattle.views.specs.Told.{faultOf}
+use Rattle.views.specs.inner.View.{TableOf, Judging, recordWord, idOf}
+use Rattle.views.specs.inner.Told.{faultOf}
 use Rattle.views.proofs.TableLaws.{row-small}
 use Rattle.rules.proofs.DerivationLaws.{nothing-in, nothing-none}
 use Rattle.placed.proofs.ExtentLaws.{extents-count}

@@ -14,8 +14,8 @@ use Rattle.rules.specs.Places.{Places}
 use Rattle.rules.specs.Rules.{goodPrimary}
 use Rattle.records.specs.declared.FoundRow.{FoundRow}
 use Rattle.records.specs.declared.FoundRow.the-variants.{At, Nothing}
-use Rattle.views.specs.View.{TableOf, recordWord}
-use Rattle.views.specs.Told.{toldRow}
+use Rattle.views.specs.inner.View.{TableOf, recordWord}
+use Rattle.views.specs.inner.Told.{toldRow}
 use Rattle.views.proofs.LookupLaws.{Found, found}
 use Rattle.views.proofs.TableLaws.{row-small}
 

@@ -14,7 +14,7 @@ use Rattle.boxes.specs.Types.{ispe, clap, irot, imir}
 use Rattle.forms.specs.Form.{give, field, whole, _>>=_, _>>_}
 use Rattle.forms.proofs.StepLaws.{reads, over, whole-reads, reads-got, reads-refused, reads-bind, reads-field, reads-short, reads-give, over-end, over-left}
 use Rattle.contents.specs.Full.{full, upto}
-use Rattle.contents.specs.Ipco.{ispe-form, bytes-form, held}
+use Rattle.contents.specs.Ipco.{ispe-form, bytes-form, good-content}
 use Rattle.contents.proofs.FullLaws.{FullHere}
 
 -- bytes-form
@@ -71,22 +71,22 @@ module _ (p : ℕ) (s : List ℕ) where
 
 -- held
 module _ (k p : ℕ) (s : List ℕ) where
-  pub held-ispe : k ≡ ispe → held k p s ≡ whole ispe-form p s
-  unfolding held pick
+  pub held-ispe : k ≡ ispe → good-content k p s ≡ whole ispe-form p s
+  unfolding good-content pick
   held-ispe e = rw e
 
-  pub held-clap : k ≡ clap → held k p s ≡ whole (bytes-form 32) p s
-  unfolding held pick
+  pub held-clap : k ≡ clap → good-content k p s ≡ whole (bytes-form 32) p s
+  unfolding good-content pick
   held-clap e = rw e
 
-  pub held-irot : k ≡ irot → held k p s ≡ whole (bytes-form 1) p s
-  unfolding held pick
+  pub held-irot : k ≡ irot → good-content k p s ≡ whole (bytes-form 1) p s
+  unfolding good-content pick
   held-irot e = rw e
 
-  pub held-imir : k ≡ imir → held k p s ≡ whole (bytes-form 1) p s
-  unfolding held pick
+  pub held-imir : k ≡ imir → good-content k p s ≡ whole (bytes-form 1) p s
+  unfolding good-content pick
   held-imir e = rw e
 
-  pub held-other : (k ≡ ispe → ⊥) → (k ≡ clap → ⊥) → (k ≡ irot → ⊥) → (k ≡ imir → ⊥) → held k p s ≡ ok tt
-  unfolding held pick
+  pub held-other : (k ≡ ispe → ⊥) → (k ≡ clap → ⊥) → (k ≡ irot → ⊥) → (k ≡ imir → ⊥) → good-content k p s ≡ ok tt
+  unfolding good-content pick
   held-other a b c d = rw (ne-eqb k ispe a, ne-eqb k clap b, ne-eqb k irot c, ne-eqb k imir d)

@@ -7,11 +7,11 @@ use lib.ListN.{length, take, drop, length-append}
 use Rattle.boxes.specs.Answer.{Answer, _>>=_}
 use Rattle.boxes.specs.Box.{headOf, kindOf, flat}
 use Rattle.boxes.specs.Children.{contain}
-use Rattle.boxes.specs.Header.{childAt}
+use Rattle.boxes.specs.inner.Header.{childAt}
 use Rattle.boxes.specs.declared.Child.the-variants as child
 use Rattle.boxes.proofs.ContainLaws.{childrenFrom, stood, from-box, from-bad, from-spare, from-end}
 use Rattle.contents.specs.Iprp.{anyBox}
-use Rattle.properties.specs.Steps.{levelOf, toldLevel}
+use Rattle.properties.specs.inner.Steps.{levelOf, toldLevel}
 use Rattle.properties.specs.declared.Level.{Level}
 use Rattle.properties.specs.declared.LevelRead.the-variants as level
 

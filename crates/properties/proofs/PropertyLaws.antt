@@ -11,20 +11,20 @@ use borrow.Author.Tests.{ltb-true, lt-ltb, le-ltb}
 use Rattle.boxes.specs.Answer.{Answer, ok, refuse, check, _>>=_, _>>_}
 use Rattle.boxes.specs.Box.{kindOf, bodyOf, flat}
 use Rattle.boxes.specs.Children.{contain}
-use Rattle.boxes.specs.Header.{childAt}
+use Rattle.boxes.specs.inner.Header.{childAt}
 use Rattle.boxes.specs.declared.Child.the-variants as child
 use Rattle.boxes.specs.declared.Refusal.{Refusal}
 use Rattle.boxes.proofs.AnswerLaws.{then-ok, ok-then, check-ok, ok-inj}
 use Rattle.boxes.proofs.ContainLaws.{childrenFrom, Stood, stood, from-box, from-bad, from-spare, from-end, stood-body}
-use Rattle.contents.specs.Ipco.{held, property}
+use Rattle.contents.specs.Ipco.{good-content, property-step}
 use Rattle.contents.specs.File.{File}
 use Rattle.rules.specs.Places.{Places}
-use Rattle.records.specs.Raw.{Bounded, rawOf}
-use Rattle.records.specs.Stage.{withProperties}
+use Rattle.records.specs.inner.Raw.{Bounded, rawOf}
+use Rattle.records.specs.inner.Stage.{withProperties}
 use Rattle.records.proofs.RawLaws.{raw-property}
-use Rattle.associations.specs.Told.{KeptIds}
+use Rattle.associations.specs.inner.Told.{KeptIds}
 use Rattle.associations.proofs.KeepLaws.{kept-self, kept-then, sets-high}
-use Rattle.properties.specs.Steps.{toldChecked, nextProperty, AddedIs, toldProperties, PropertiesLeft}
+use Rattle.properties.specs.inner.Steps.{toldChecked, nextProperty, AddedIs, toldProperties, PropertiesLeft}
 use Rattle.properties.specs.declared.Checked.{Checked}
 use Rattle.properties.specs.declared.Checked.the-variants as checked
 use Rattle.properties.specs.declared.PropertiesRead.{PropertiesRead}
@@ -58,12 +58,13 @@ next-many : (n kind place : ℕ) (s : List ℕ) → n ≡ 256 → nextProperty n
 unfolding check _>>_
 next-many n kind place s e = rw (le-ltb n 256 (omega arith))
 
-next-held : (n kind place : ℕ) (s : List ℕ) → n < 256 → nextProperty n kind place s ≡ held kind place s
+next-held : (n kind place : ℕ) (s : List ℕ) → n < 256 → nextProperty n kind place s ≡ good-content kind place s
 unfolding check _>>_
 next-held n kind place s h = rw (lt-ltb n 256 h)
 
 next-few : (n kind place : ℕ) (s : List ℕ) → nextProperty n kind place s ≡ ok tt → n < 256
-next-few n kind place s e = let x = then-ok (check 9 place (ltb n 256)) (held kind place s) tt e in ltb-true n 256 (check-ok 9 place (ltb n 256) (x .0) (x .1))
+next-few n kind place s e = let x = then-ok (check 9 place (ltb n 256)) (good-content kind place s) tt e in
+    ltb-true n 256 (check-ok 9 place (ltb n 256) (x .0) (x .1))
 
 -- the code's answer about one property
 module _ (n kind place size : ℕ) (s t : List ℕ) where
@@ -73,7 +74,7 @@ module _ (n kind place size : ℕ) (s t : List ℕ) where
   pub added-many : n ≡ 256 → Adds t (checked.Refused (record { number = 9; place = place }))
   added-many e = (next-many n kind place s e, refl)
 
-  module _ (room : n ≤ 256) (more : n ≡ 256 → ⊥) (r : Checked) (is : r ≡ toldChecked (held kind place s)) where
+  module _ (room : n ≤ 256) (more : n ≡ 256 → ⊥) (r : Checked) (is : r ≡ toldChecked (good-content kind place s)) where
     few : n < 256
     few = omega (arith, more)
 
@@ -87,15 +88,15 @@ module _ (n kind place size : ℕ) (s t : List ℕ) where
 
 -- property
 module _ (at : ℕ) (before : List (List ℕ)) (b : List ℕ) where
-  property-next : property at before b ≡ (nextProperty (length before) (kindOf b) at (bodyOf b) >> ok (before ++ (b ∷ [])))
-  unfolding property
+  property-next : property-step at before b ≡ (nextProperty (length before) (kindOf b) at (bodyOf b) >> ok (before ++ (b ∷ [])))
+  unfolding property-step
   property-next = sym (then-then _ _ _)
 
-  property-bad : (n p : ℕ) → nextProperty (length before) (kindOf b) at (bodyOf b) ≡ refuse n p → property at before b ≡ refuse n p
+  property-bad : (n p : ℕ) → nextProperty (length before) (kindOf b) at (bodyOf b) ≡ refuse n p → property-step at before b ≡ refuse n p
   unfolding _>>_
   property-bad n p e = property-next ∙ ap (λ (m : Answer (Unit {0})). m >> ok (before ++ (b ∷ []))) e
 
-  property-good : nextProperty (length before) (kindOf b) at (bodyOf b) ≡ ok tt → property at before b ≡ ok (before ++ (b ∷ []))
+  property-good : nextProperty (length before) (kindOf b) at (bodyOf b) ≡ ok tt → property-step at before b ≡ ok (before ++ (b ∷ []))
   property-good e = property-next ∙ ok-then _ _ tt e
 
 -- the table of a file with one property more
@@ -115,7 +116,7 @@ raw-more pl f x t ps b bd is few =
 -- what the loop keeps: the properties before `at`, and the table with them
 module _ (s : List ℕ) (place base : ℕ) (t₀ : List ℕ) where
   abbrev propertiesAnswer : Answer (List (List ℕ))
-  propertiesAnswer = contain property place base [] s
+  propertiesAnswer = contain property-step place base [] s
 
   pub record PropertiesSo (t : List ℕ) (at n : ℕ) : Type 0 where
     pub boxes : List (List ℕ)
@@ -123,7 +124,7 @@ module _ (s : List ℕ) (place base : ℕ) (t₀ : List ℕ) where
     pub here : at ≤ length s
     pub count : length boxes ≡ n
     pub few : n ≤ 256
-    pub same : propertiesAnswer ≡ childrenFrom property place base s at boxes
+    pub same : propertiesAnswer ≡ childrenFrom property-step place base s at boxes
     pub kept : KeptIds t₀ t
     pub told : (pl : Places) (f : File) (x : List ℕ) → pl .properties ≡ base → Bounded f → f .properties ≡ [] →
         t₀ ≡ rawOf [] pl f ++ x → t ≡ rawOf [] pl (withProperties f boxes) ++ x
@@ -138,7 +139,7 @@ module _ (s : List ℕ) (place base : ℕ) (t₀ : List ℕ) where
         here = omega arith;
         count = refl;
         few = omega arith;
-        same = ap (λ (b : ℕ). contain property place b [] s) e;
+        same = ap (λ (b : ℕ). contain property-step place b [] s) e;
         kept = kept-self t₀;
         told = λ pl f x start bd none is. is ∙ ap (λ (ps : List (List ℕ)). rawOf [] pl (withProperties f ps) ++ x) none;
       }
@@ -148,22 +149,22 @@ module _ (s : List ℕ) (place base : ℕ) (t₀ : List ℕ) where
   Tells r u = (r ≡ toldProperties propertiesAnswer) × PropertiesLeft s place base t₀ u
 
   module _ (t : List ℕ) (at n : ℕ) (so : PropertiesSo t at n) where
-    refused : (a b : ℕ) → childrenFrom property place base s at (so .boxes) ≡ refuse a b → Tells (properties.Refused (record { number = a; place = b })) t
+    refused : (a b : ℕ) → childrenFrom property-step place base s at (so .boxes) ≡ refuse a b → Tells (properties.Refused (record { number = a; place = b })) t
     unfolding toldProperties
     refused a b e =
         let q = so .same ∙ e in
         (sym (ap toldProperties q), record { same = so .kept; told = λ pl f x ps start bd none g is. let z : _≡_ {A = ℕ} 0 1 = cc in absurd (omega arith) })
 
     pub properties-bad : childAt s at ≡ child.Bad → Tells (properties.Refused (record { number = 3; place = base + at })) t
-    properties-bad e = refused 3 (base + at) (from-bad s at property place base (so .boxes) e)
+    properties-bad e = refused 3 (base + at) (from-bad s at property-step place base (so .boxes) e)
 
     pub properties-spare : childAt s at ≡ child.Spare → Tells (properties.Refused (record { number = 3; place = place })) t
-    properties-spare e = refused 3 place (from-spare s at property place base (so .boxes) e)
+    properties-spare e = refused 3 place (from-spare s at property-step place base (so .boxes) e)
 
     pub properties-end : childAt s at ≡ child.End → Tells (properties.Properties n) t
     unfolding toldProperties
     properties-end e =
-        let q = so .same ∙ from-end s at property place base (so .boxes) e in (
+        let q = so .same ∙ from-end s at property-step place base (so .boxes) e in (
           ap properties.Properties (sym (so .count)) ∙ sym (ap toldProperties q),
           record {
             same = so .kept;
@@ -183,10 +184,10 @@ module _ (s : List ℕ) (place base : ℕ) (t₀ : List ℕ) where
       pub properties-further : (at < body) × (body ≤ end) × (end ≤ length s)
       properties-further = let w = there in (w .order .0, w .order .1, w .inside)
 
-      step : (m : Answer (List (List ℕ))) → property (base + at) (so .boxes) b ≡ m →
-          childrenFrom property place base s at (so .boxes) ≡ (m >>= (λ z. childrenFrom property place base s end z))
-      step m h = from-box s at property place base (so .boxes) kind body end e ∙
-          ap (λ (a : Answer (List (List ℕ))). a >>= (λ z. childrenFrom property place base s end z)) h
+      step : (m : Answer (List (List ℕ))) → property-step (base + at) (so .boxes) b ≡ m →
+          childrenFrom property-step place base s at (so .boxes) ≡ (m >>= (λ z. childrenFrom property-step place base s end z))
+      step m h = from-box s at property-step place base (so .boxes) kind body end e ∙
+          ap (λ (a : Answer (List (List ℕ))). a >>= (λ z. childrenFrom property-step place base s end z)) h
 
       module _ (r : Checked) (u : List ℕ) (is : AddedIs
           (nextProperty n kind (base + at) (take (end - body) (drop body s))) n kind (base + at) (end - at) t u r) where

@@ -17,13 +17,13 @@ use Rattle.boxes.specs.Children.{contain}
 use Rattle.boxes.specs.declared.Refusal.{Refusal}
 use Rattle.boxes.proofs.BoxLaws.{head-least}
 use Rattle.contents.specs.Iinf.{idsOf}
-use Rattle.contents.specs.Iprp.{Pair, anyBox, pairOf, shown}
-use Rattle.records.specs.Rows.{idsIn}
+use Rattle.contents.specs.Iprp.{Pair, anyBox, pairOf, iprp-content}
+use Rattle.records.specs.inner.Rows.{idsIn}
 use Rattle.fields.proofs.TestLaws.{and-none}
 use Rattle.records.proofs.IdLaws.{raw-ids}
 use Rattle.contents.proofs.PropertyLaws.{any-sound, pair-complete}
-use Rattle.properties.specs.Told.{toldShown, ShownLeft}
-use Rattle.properties.specs.Steps.{levelOf, toldLevel, pairShown, PairLeft}
+use Rattle.properties.specs.inner.Told.{toldShown, ShownLeft}
+use Rattle.properties.specs.inner.Steps.{levelOf, toldLevel, pairShown, PairLeft}
 use Rattle.properties.specs.declared.Level.{Level}
 use Rattle.properties.specs.declared.LevelRead.{LevelRead}
 use Rattle.properties.specs.declared.LevelRead.the-variants as level
@@ -103,22 +103,23 @@ module _ (a b : List ℕ) (first-box : IsBox a) (second-box : IsBox b) where
 
 -- shown
 module _ (ids : List ℕ) (place base : ℕ) (s : List ℕ) where
-  shown-level : (a b : ℕ) → contain anyBox place base [] s ≡ refuse a b → shown ids place base s ≡ refuse a b
-  unfolding shown _>>=_
+  shown-level : (a b : ℕ) → contain anyBox place base [] s ≡ refuse a b → iprp-content ids place base s ≡ refuse a b
+  unfolding iprp-content _>>=_
   shown-level a b e = rw e
 
   module _ (bs : List (List ℕ)) (e : contain anyBox place base [] s ≡ ok bs) where
-    shown-not : (a b : ℕ) → pairOf place bs ≡ refuse a b → shown ids place base s ≡ refuse a b
-    unfolding shown _>>=_
+    shown-not : (a b : ℕ) → pairOf place bs ≡ refuse a b → iprp-content ids place base s ≡ refuse a b
+    unfolding iprp-content _>>=_
     shown-not a b q = rw (e, q)
 
     shown-pair : (two : Pair) → pairOf place bs ≡ ok two
-        → shown ids place base s ≡ pairShown ids base (headOf (two .first)) (length (two .first)) (bodyOf (two .first)) (bodyOf (two .second))
-    unfolding shown _>>=_ pairShown
+        → iprp-content ids place base s ≡ pairShown ids base (headOf (two .first)) (length (two .first)) (bodyOf (two .first)) (bodyOf (two .second))
+    unfolding iprp-content _>>=_ pairShown
     shown-pair two q = rw (e, q)
 
 -- ShownLeft, where nothing is read
-shown-gone : (s : List ℕ) (place base n : ℕ) (t : List ℕ) (a b : ℕ) → ((ids : List ℕ) → shown ids place base s ≡ refuse a b) → ShownLeft s place base n t t
+shown-gone : (s : List ℕ) (place base n : ℕ) (t : List ℕ) (a b : ℕ) →
+    ((ids : List ℕ) → iprp-content ids place base s ≡ refuse a b) → ShownLeft s place base n t t
 shown-gone s place base n t a b h =
     record {
       kept = record { same-length = refl; past = refl };
@@ -128,9 +129,9 @@ shown-gone s place base n t a b h =
 -- what the code answers and leaves, by the children l that it keeps
 module _ (s : List ℕ) (place base n : ℕ) (t : List ℕ) where
   abbrev ShownTells : ShownRead → List ℕ → Type 0
-  ShownTells r u = (r ≡ toldShown (shown (idsIn t n) place base s)) × ShownLeft s place base n t u
+  ShownTells r u = (r ≡ toldShown (iprp-content (idsIn t n) place base s)) × ShownLeft s place base n t u
 
-  shown-refused : (x : Refusal) → ((ids : List ℕ) → shown ids place base s ≡ refuse (x .number) (x .place)) → ShownTells (read.Refused x) t
+  shown-refused : (x : Refusal) → ((ids : List ℕ) → iprp-content ids place base s ≡ refuse (x .number) (x .place)) → ShownTells (read.Refused x) t
   unfolding toldShown
   shown-refused x h = (sym (ap toldShown (h (idsIn t n))), shown-gone s place base n t _ _ h)
 
@@ -194,7 +195,7 @@ module _ (s : List ℕ) (place base n : ℕ) (t : List ℕ) where
               ap (pairOf place) (both .are)
               ∙ pair-complete place a b (ap (λ (m : Level). m .kind0) (sym level-is) ∙ h) (ap (λ (m : Level). m .kind1) (sym level-is) ∙ k)
 
-          same : (ids : List ℕ) → shown ids place base s ≡ pairShown ids base (l .body0) (l .end0)
+          same : (ids : List ℕ) → iprp-content ids place base s ≡ pairShown ids base (l .body0) (l .end0)
               (take (l .end0 - l .body0) (drop (l .body0) s)) (take (l .end1 - l .body1) (drop (l .body1) s))
           same ids = shown-pair ids place base s (these .0) (these .1) _ paired ∙
               pair-parts a b (both .first-box) (both .second-box) ids base s l (both .joined) level-is
@@ -212,7 +213,7 @@ module _ (s : List ℕ) (place base n : ℕ) (t : List ℕ) where
               kept = q .1 .kept;
               told = λ pl f x v start ready np na g is.
                   q .1 .told pl f x v (start ∙ ap (λ (i : ℕ). base + i) begins) ready np na
-                  (sym (same (idsIn t n)) ∙ ap (λ (ids : List ℕ). shown ids place base s) (raw-ids pl f x t n (ready .count) is) ∙ g) is;
+                  (sym (same (idsIn t n)) ∙ ap (λ (ids : List ℕ). iprp-content ids place base s) (raw-ids pl f x t n (ready .count) is) ∙ g) is;
             },
           )
             where

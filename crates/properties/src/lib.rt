@@ -7,11 +7,11 @@ ghost use lib.Seq.{sets};
 ghost use Rattle.boxes.specs.Box.{headOf, kindOf, flat};
 ghost use Rattle.boxes.specs.Children.{contain};
 ghost use Rattle.forms.specs.Form.{whole};
-ghost use Rattle.contents.specs.Ipco.{ispe-form, bytes-form, held, property};
-ghost use Rattle.contents.specs.Iprp.{anyBox, shown};
-ghost use Rattle.records.specs.Rows.{idsIn};
-ghost use Rattle.properties.specs.Told.{toldShown, ShownLeft};
-ghost use Rattle.properties.specs.Steps.{
+ghost use Rattle.contents.specs.Ipco.{ispe-form, bytes-form, good-content, property-step};
+ghost use Rattle.contents.specs.Iprp.{anyBox, iprp-content};
+ghost use Rattle.records.specs.inner.Rows.{idsIn};
+ghost use Rattle.properties.specs.inner.Told.{toldShown, ShownLeft};
+ghost use Rattle.properties.specs.inner.Steps.{
   toldChecked,
   nextProperty,
   AddedIs,
@@ -67,7 +67,7 @@ fn check_ispe(s: &[u8], place: u64) -> Checked
 
 // The content of a property of a type, at a place.
 fn check_property(kind: u32, s: &[u8], place: u64) -> Checked
-    ensures { λ r. ⌜ r ≡ toldChecked (held kind place (now (s .entry))) ⌝ }
+    ensures { λ r. ⌜ r ≡ toldChecked (good-content kind place (now (s .entry))) ⌝ }
 {
     match kind {
         ISPE => check_ispe(s, place),
@@ -128,7 +128,7 @@ pub enum PropertiesRead {
 // The properties of the `ipco` at a place, whose content s begins at `base`.
 fn read_properties(s: &[u8], place: u64, base: u64, table: &mut [u32]) -> PropertiesRead
     requires { ⌜ (11280 ≤ length (now table)) × (base + length (now s) ≤ 65536) ⌝ }
-    ensures { λ r. ⌜ r ≡ toldProperties (contain property place base [] (now (s .entry))) ⌝ }
+    ensures { λ r. ⌜ r ≡ toldProperties (contain property-step place base [] (now (s .entry))) ⌝ }
     ensures { λ _. ⌜ PropertiesLeft (now (s .entry)) place base (now (table .entry)) (now (table .exit)) ⌝ }
 {
     let mut at: usize = 0;
@@ -272,7 +272,7 @@ pub enum ShownRead {
 }
 
 // The `iprp` at a place, whose content s begins at `base`, into a table with n items.
-pub fn read_shown(
+pub fn read_iprp_content(
     s: &[u8],
     place: u64,
     base: u64,
@@ -281,7 +281,7 @@ pub fn read_shown(
     slots: &[u32],
 ) -> ShownRead
     requires { ⌜ (11280 ≤ length (now table)) × (n ≤ 256) × (base + length (now s) ≤ 65536) ⌝ }
-    ensures { λ r. ⌜ r ≡ toldShown (shown (idsIn (now (table .entry)) n) place base (now (s .entry))) ⌝ }
+    ensures { λ r. ⌜ r ≡ toldShown (iprp-content (idsIn (now (table .entry)) n) place base (now (s .entry))) ⌝ }
     ensures { λ _. ⌜ ShownLeft (now (s .entry)) place base n (now (table .entry)) (now (table .exit)) ⌝ }
 {
     let r = read_level(s, place, base);

@@ -4,10 +4,11 @@ use mathlib.Core.Path.{_≡_}
 use mathlib.Core.List.{List}
 use lib.ListN.{length}
 use Rattle.boxes.specs.Answer.{ok}
-use Rattle.forms.specs.Form.{whole, whole-sound}
+use Rattle.forms.specs.Form.{whole}
+use Rattle.forms.proofs.WholeLaws.{whole-sound}
 use Rattle.contents.specs.Iloc.{Location, extentsIn, iloc-form}
 use Rattle.contents.specs.Ipma.{associationsIn}
-use Rattle.contents.specs.Iprp.{Shown, shown}
+use Rattle.contents.specs.Iprp.{IprpContent, iprp-content}
 use Rattle.contents.specs.Iref.{Derivation, targetsIn, references}
 use Rattle.contents.proofs.PropertyLaws.{shown-sound}
 use Rattle.contents.proofs.ReferenceLaws.{references-sound}
@@ -16,7 +17,7 @@ use Rattle.contents.proofs.LimitLaws.{extents-few, associations-few, references
 pub iloc-few : (ids : List ℕ) (p : ℕ) (s : List ℕ) (ls : List Location) → whole (iloc-form ids) p s ≡ ok ls → extentsIn ls ≤ 512
 iloc-few ids p s ls e = extents-few ids s ls (whole-sound (iloc-form ids) p s ls e)
 
-pub shown-few : (ids : List ℕ) (p at : ℕ) (s : List ℕ) (v : Shown) → shown ids p at s ≡ ok v →
+pub shown-few : (ids : List ℕ) (p at : ℕ) (s : List ℕ) (v : IprpContent) → iprp-content ids p at s ≡ ok v →
     (length (v .properties) ≤ 256) × (associationsIn (v .associations) ≤ 2048)
 shown-few ids p at s v e = let h = shown-sound ids p at s v e in (h .properties .few, associations-few ids _ _ _ (h .associations))
 

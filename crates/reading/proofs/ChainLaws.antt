@@ -16,15 +16,15 @@ use Rattle.contents.specs.Pitm.{pitm-form}
 use Rattle.contents.specs.Iinf.{Item, idsOf, items}
 use Rattle.contents.specs.Iloc.{Location, extentsIn, iloc-form}
 use Rattle.contents.specs.Ipma.{associationsIn}
-use Rattle.contents.specs.Iprp.{Shown, shown}
+use Rattle.contents.specs.Iprp.{IprpContent, iprp-content}
 use Rattle.contents.specs.File.{File}
 use Rattle.rules.specs.Joined.{derivedFrom}
 use Rattle.rules.specs.Places.{placesAt}
-use Rattle.records.specs.Raw.{rawOf}
-use Rattle.records.specs.Rows.{idsIn, Distinct}
-use Rattle.records.specs.Stage.{withItems, withLocations, withProperties, withNames}
+use Rattle.records.specs.inner.Raw.{rawOf}
+use Rattle.records.specs.inner.Rows.{idsIn, Distinct}
+use Rattle.records.specs.inner.Stage.{withItems, withLocations, withProperties, withNames}
 use Rattle.records.proofs.RawLaws.{raw-located, raw-derived}
-use Rattle.reading.specs.Parts.{kids, Before, LastBefore, contentOf, beginOf, fromHandler, fromItems, fromLocations, fromShown, fromReferences}
+use Rattle.reading.specs.inner.Parts.{kids, Before, LastBefore, contentOf, beginOf, fromHandler, fromItems, fromLocations, fromShown, fromReferences}
 use Rattle.reading.proofs.BoundLaws.{iloc-few, shown-few}
 use Rattle.reading.proofs.StageLaws.{ids-are}
 use Rattle.reading.proofs.ToldLaws.{refuse-bind}
@@ -52,21 +52,21 @@ module _ (s : List ℕ) (at n : ℕ) (f : File) (x t : List ℕ) (b : Before s a
 
 -- fromShown
 module _ (at : ℕ) (bs : List (List ℕ)) (primary : ℕ) (is : List Item) (ls : List Location) where
-  abbrev said : Answer Shown
-  said = shown (idsOf is) (placeOf iprp at bs) (beginOf at bs iprp) (contentOf at bs iprp)
+  abbrev said : Answer IprpContent
+  said = iprp-content (idsOf is) (placeOf iprp at bs) (beginOf at bs iprp) (contentOf at bs iprp)
 
   pub shown-gone : (r : Refusal) → said ≡ refuse (r .number) (r .place) → fromShown at bs primary is ls ≡ refuse (r .number) (r .place)
   unfolding fromShown
   shown-gone r e = refuse-bind _ _ r e
 
-  pub shown-on : (v : Shown) → said ≡ ok v → fromShown at bs primary is ls ≡ fromReferences at bs primary is ls v
+  pub shown-on : (v : IprpContent) → said ≡ ok v → fromShown at bs primary is ls ≡ fromReferences at bs primary is ls v
   unfolding fromShown
   shown-on v e = ok-bind _ _ v e
 
 -- the last stage begins
-pub last-begins : (s : List ℕ) (at n : ℕ) (is : List Item) (ls : List Location) (x t u : List ℕ) (v : Shown)
+pub last-begins : (s : List ℕ) (at n : ℕ) (is : List Item) (ls : List Location) (x t u : List ℕ) (v : IprpContent)
     (p k e : ℕ) → Before s at n (withLocations (withItems is) ls) x t →
-    shown (idsOf is) (placeOf iprp at (kids s)) (beginOf at (kids s) iprp) (contentOf at (kids s) iprp) ≡ ok v →
+    iprp-content (idsOf is) (placeOf iprp at (kids s)) (beginOf at (kids s) iprp) (contentOf at (kids s) iprp) ≡ ok v →
     u ≡ rawOf [] (placesAt at (kids s))
     (withNames (withProperties (withLocations (withItems is) ls) (v .properties)) (v .associations)) ++ x →
     length (v .properties) ≡ p → associationsIn (v .associations) ≡ k → extentsIn ls ≡ e →

@@ -10,18 +10,18 @@ use Rattle.boxes.specs.Answer.{Answer, ok}
 use Rattle.boxes.specs.Types.{iref}
 use Rattle.boxes.specs.Box.{headOf, bodyOf}
 use Rattle.boxes.specs.Children.{placeOf}
-use Rattle.boxes.specs.Where.{whereOf}
-use Rattle.boxes.specs.Family.{spotOf}
+use Rattle.boxes.specs.inner.Where.{whereOf}
+use Rattle.boxes.specs.inner.Family.{spotOf}
 use Rattle.boxes.specs.declared.Spot.{Spot}
 use Rattle.boxes.specs.declared.Refusal.{Refusal}
 use Rattle.contents.specs.Iinf.{idsOf}
 use Rattle.contents.specs.Iref.{Derivation, targetsIn, references}
 use Rattle.contents.specs.File.{File}
 use Rattle.rules.specs.Places.{firstOf, placesAt}
-use Rattle.records.specs.Raw.{rawOf}
-use Rattle.records.specs.Rows.{idsIn}
-use Rattle.records.specs.Stage.{Kept, withDerivations}
-use Rattle.references.specs.Told.{toldReferences, ReferencesLeft}
+use Rattle.records.specs.inner.Raw.{rawOf}
+use Rattle.records.specs.inner.Rows.{idsIn}
+use Rattle.records.specs.inner.Stage.{Kept, withDerivations}
+use Rattle.references.specs.inner.Told.{toldReferences, ReferencesLeft}
 use Rattle.references.specs.declared.ReferencesRead.the-variants as told
 use Rattle.records.proofs.KeptLaws.{kept-same}
 use Rattle.references.proofs.ChildrenLaws.{references-refused}
@@ -29,7 +29,7 @@ use Rattle.reading.proofs.BoundLaws.{iref-few}
 use Rattle.reading.specs.declared.Counts.{Counts}
 use Rattle.reading.specs.declared.FileRead.{FileRead}
 use Rattle.reading.specs.declared.FileRead.the-variants.{Refused}
-use Rattle.reading.specs.Parts.{kids, Standing, LastBefore, After, shownOf, fromReferences, toldSpot, Has}
+use Rattle.reading.specs.inner.Parts.{kids, Standing, LastBefore, After, shownOf, fromReferences, toldSpot, Has}
 use Rattle.reading.proofs.SpotLaws.{there, not-there, boxes-all, boxes-joined, spot-is, SpotIs}
 use Rattle.reading.proofs.StageLaws.{ids-are, after-refused, after-read, references-none, references-read, references-gone}
 use Rattle.reading.proofs.ToldLaws.{references-ok}

@@ -10,7 +10,7 @@ use Rattle.boxes.specs.Answer.{ok, refuse, check, _>>=_, _>>_}
 use Rattle.boxes.specs.Types.{known}
 use Rattle.boxes.specs.Box.{headOf, bodyOf, IsBox, Cut, cut}
 use Rattle.boxes.specs.Children.{children}
-use Rattle.boxes.specs.Family.{spotsOf}
+use Rattle.boxes.specs.inner.Family.{spotsOf}
 use Rattle.boxes.specs.Top.{metaIn}
 use Rattle.boxes.specs.Top as Top
 use Rattle.boxes.specs.declared.Spot.{Spot}
@@ -23,7 +23,7 @@ use Rattle.contents.specs.Full.{full, upto}
 use Rattle.contents.specs.File.{contentsOf, fileOf, readFile}
 use Rattle.contents.proofs.FullLaws.{FullHere}
 use Rattle.rules.specs.Places.{placesAt, placesBy, placesIn}
-use Rattle.reading.specs.Parts.{kids, Five, Standing, spotsIn, fromHandler}
+use Rattle.reading.specs.inner.Parts.{kids, Five, Standing, spotsIn, fromHandler}
 use Rattle.reading.proofs.PartLaws.{contents-parts}
 use Rattle.reading.proofs.ToldLaws.{refuse-bind}
 
@@ -85,11 +85,11 @@ module _ (total : ℕ) (head : List ℕ) where
     pub read-gone : (r : Refusal) → metaIn total head ≡ refuse (r .number) (r .place) → readFile total head ≡ refuse (r .number) (r .place)
     read-gone r e = opened ∙ refuse-bind _ _ r e
 
-    pub read-meta : (m : Top.Spot) → metaIn total head ≡ ok m → readFile total head ≡ fileOf (m .place) (m .place + headOf (m .box)) (bodyOf (m .box))
+    pub read-meta : (m : Top.PlacedBox) → metaIn total head ≡ ok m → readFile total head ≡ fileOf (m .place) (m .place + headOf (m .box)) (bodyOf (m .box))
     read-meta m e = opened ∙ ok-bind _ _ m e
 
 -- placesIn
-pub places-are : (total : ℕ) (head : List ℕ) (m : Top.Spot) → metaIn total head ≡ ok m →
+pub places-are : (total : ℕ) (head : List ℕ) (m : Top.PlacedBox) → metaIn total head ≡ ok m →
     placesIn total head ≡ placesAt (m .place + headOf (m .box) + 4) (kids (drop 4 (bodyOf (m .box))))
 unfolding placesBy
 places-are total head m e = ap placesBy e

@@ -8,23 +8,23 @@ use Rattle.boxes.specs.Answer.{Answer, ok}
 use Rattle.boxes.specs.Types.{iloc, iprp}
 use Rattle.boxes.specs.Box.{headOf}
 use Rattle.boxes.specs.Children.{placeOf}
-use Rattle.boxes.specs.Where.{whereOf}
-use Rattle.boxes.specs.Family.{spotOf}
+use Rattle.boxes.specs.inner.Where.{whereOf}
+use Rattle.boxes.specs.inner.Family.{spotOf}
 use Rattle.boxes.specs.declared.Spot.{Spot}
 use Rattle.boxes.specs.declared.Refusal.{Refusal}
 use Rattle.forms.specs.Form.{whole}
 use Rattle.contents.specs.Iinf.{Item, idsOf}
 use Rattle.contents.specs.Iloc.{Location, extentsIn, iloc-form}
-use Rattle.contents.specs.Iprp.{Shown, shown}
+use Rattle.contents.specs.Iprp.{IprpContent, iprp-content}
 use Rattle.rules.specs.Places.{placesAt}
-use Rattle.records.specs.Rows.{idsIn}
-use Rattle.records.specs.Stage.{withItems, withLocations, withProperties, withNames}
-use Rattle.locations.specs.Told.{toldLocations, LocationsLeft, Unplaced}
+use Rattle.records.specs.inner.Rows.{idsIn}
+use Rattle.records.specs.inner.Stage.{withItems, withLocations, withProperties, withNames}
+use Rattle.locations.specs.inner.Told.{toldLocations, LocationsLeft, Unplaced}
 use Rattle.locations.specs.declared.LocationsRead.the-variants as located
-use Rattle.properties.specs.Told.{toldShown, ShownLeft}
+use Rattle.properties.specs.inner.Told.{toldShown, ShownLeft}
 use Rattle.properties.specs.declared.ShownRead.the-variants as showing
 use Rattle.reading.specs.declared.FileRead.the-variants.{Refused}
-use Rattle.reading.specs.Parts.{kids, Standing, Before, LastBefore, After, contentOf, beginOf, fromLocations, fromShown, fromReferences, Has}
+use Rattle.reading.specs.inner.Parts.{kids, Standing, Before, LastBefore, After, contentOf, beginOf, fromLocations, fromShown, fromReferences, Has}
 use Rattle.reading.proofs.SpotLaws.{boxes-all, boxes-joined, spot-is, SpotIs}
 use Rattle.reading.proofs.StageLaws.{ids-are, after-refused}
 use Rattle.reading.proofs.ChainLaws.{ids-distinct, none-located, locations-gone, locations-on, shown-begins, shown-gone, shown-on, last-begins}
@@ -93,11 +93,11 @@ module _ (s : List ℕ) (at : ℕ) (spots : List Spot) (st : Standing s spots) w
   module _ (n : ℕ) (is : List Item) (ls : List Location) (x t : List ℕ)
       (b : Before s at n (withLocations (withItems is) ls) x t) (part : List ℕ)
       (pe : part ≡ take (seat spots 4 .end - seat spots 4 .body) (drop (seat spots 4 .body) s)) where
-    abbrev shown-meant : Answer Shown
-    shown-meant = shown (idsOf is) (placeOf iprp at (kids s)) (beginOf at (kids s) iprp) (contentOf at (kids s) iprp)
+    abbrev shown-meant : Answer IprpContent
+    shown-meant = iprp-content (idsOf is) (placeOf iprp at (kids s)) (beginOf at (kids s) iprp) (contentOf at (kids s) iprp)
 
-    abbrev shown-read : Answer Shown
-    shown-read = shown (idsIn t n) (at + seat spots 4 .start) (at + seat spots 4 .body) part
+    abbrev shown-read : Answer IprpContent
+    shown-read = iprp-content (idsIn t n) (at + seat spots 4 .start) (at + seat spots 4 .body) part
 
     abbrev ids : idsIn t n ≡ idsOf is
     ids = ids-are s at n (withLocations (withItems is) ls) x t b
@@ -108,8 +108,8 @@ module _ (s : List ℕ) (at : ℕ) (spots : List Spot) (st : Standing s spots) w
     shown-same : shown-read ≡ shown-meant
     shown-same = let i = child in rw (ids, i .place, i .begin, pe, i .part) refl
 
-    shown-same-ids : shown-read ≡ shown (idsOf is) (at + seat spots 4 .start) (at + seat spots 4 .body) part
-    shown-same-ids = ap (λ (y : List ℕ). shown y (at + seat spots 4 .start) (at + seat spots 4 .body) part) ids
+    shown-same-ids : shown-read ≡ iprp-content (idsOf is) (at + seat spots 4 .start) (at + seat spots 4 .body) part
+    shown-same-ids = ap (λ (y : List ℕ). iprp-content y (at + seat spots 4 .start) (at + seat spots 4 .body) part) ids
 
     first-place : placesAt at (kids s) .properties ≡ at + seat spots 4 .body + headOf part
     unfolding placesAt
@@ -121,7 +121,7 @@ module _ (s : List ℕ) (at : ℕ) (spots : List Spot) (st : Standing s spots) w
 
     pub iprp-on : (p k : ℕ) → toldShown shown-read ≡ showing.Shown p k → (u : List ℕ) →
         ShownLeft part (at + seat spots 4 .start) (at + seat spots 4 .body) n t u → (extents : ℕ) →
-        extentsIn ls ≡ extents → (primary : ℕ) → (v : Shown) ×
+        extentsIn ls ≡ extents → (primary : ℕ) → (v : IprpContent) ×
         LastBefore s at (record { items = n; properties = p; associations = k; targets = 0; extents = extents })
         (withNames (withProperties (withLocations (withItems is) ls) (v .properties)) (v .associations)) x u ×
         (fromShown at (kids s) primary is ls ≡ fromReferences at (kids s) primary is ls v)

@@ -12,7 +12,7 @@ use Rattle.boxes.specs.Children.{ofKind, filled, children, theOne, firstOr}
 use Rattle.boxes.proofs.AnswerLaws.{ok-bind}
 use Rattle.contents.specs.File.{contentsOf}
 use Rattle.rules.specs.Places.{firstOf}
-use Rattle.reading.specs.Parts.{Has, Five, fromHandler, fromItems, fromLocations, fromShown, fromReferences}
+use Rattle.reading.specs.inner.Parts.{Has, Five, fromHandler, fromItems, fromLocations, fromShown, fromReferences}
 
 -- theOne
 the-one : (p k : ℕ) (bs : List (List ℕ)) → Has k bs → theOne p k bs ≡ ok (firstOf k bs)

@@ -7,7 +7,7 @@ use mathlib.Core.Logic.{_⊎_, inl, inr}
 use lib.ListN.{length, getD, set, length-set}
 use lib.Seq.{getD-set-same, getD-set-other}
 use Rattle.boxes.specs.declared.Refusal.{Refusal}
-use Rattle.records.specs.Rows.{RowedTo, Rowed}
+use Rattle.records.specs.inner.Rows.{RowedTo, Rowed}
 use Rattle.reading.specs.declared.FileRead.the-variants.{Is, Refused}
 
 -- a refusal is no reading

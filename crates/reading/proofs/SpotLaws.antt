@@ -11,8 +11,8 @@ use Rattle.fields.specs.Choice.{pick}
 use Rattle.fields.specs.Lists.{All}
 use Rattle.boxes.specs.Box.{headOf, kindOf, bodyOf, IsBox, flat}
 use Rattle.boxes.specs.Children.{ofKind, filled, placeOf}
-use Rattle.boxes.specs.Where.{Where, nowhere, stands, whereOf}
-use Rattle.boxes.specs.Family.{spotOf}
+use Rattle.boxes.specs.inner.Where.{Where, nowhere, stands, whereOf}
+use Rattle.boxes.specs.inner.Family.{spotOf}
 use Rattle.boxes.specs.declared.Spot.{Spot}
 use Rattle.boxes.proofs.BoxLaws.{head-least, cut-is, cut-whole}
 use Rattle.boxes.proofs.ChildLaws.{of-yes, of-no, nil-filled}
@@ -21,7 +21,7 @@ use Rattle.boxes.proofs.WhereLaws.{Stands, where-yes, where-no, where-first}
 use Rattle.rules.specs.Places.{firstOf}
 use Rattle.rules.specs.Places.{placesAt}
 use Rattle.contents.specs.File.{dataOf}
-use Rattle.reading.specs.Parts.{Has, kids, Standing, toldSpot}
+use Rattle.reading.specs.inner.Parts.{Has, kids, Standing, toldSpot}
 use Rattle.reading.specs.declared.FileRead.the-variants.{Is}
 
 -- Has

@@ -16,20 +16,20 @@ use Rattle.boxes.proofs.AnswerLaws.{ok-bind, ok-inj}
 use Rattle.boxes.proofs.ChildLaws.{nil-filled}
 use Rattle.contents.specs.Iinf.{Item, idsOf}
 use Rattle.contents.specs.Iloc.{Location}
-use Rattle.contents.specs.Iprp.{Shown}
+use Rattle.contents.specs.Iprp.{IprpContent}
 use Rattle.contents.specs.Iref.{Derivation, targetsIn, references}
 use Rattle.contents.specs.File.{File, referred}
 use Rattle.rules.specs.Places.{firstOf, placesAt}
 use Rattle.rules.specs.Words.{headWords}
-use Rattle.records.specs.Raw.{rawOf}
-use Rattle.records.specs.Rows.{idAt, idsIn}
-use Rattle.records.specs.Stage.{withDerivations}
+use Rattle.records.specs.inner.Raw.{rawOf}
+use Rattle.records.specs.inner.Rows.{idAt, idsIn}
+use Rattle.records.specs.inner.Stage.{withDerivations}
 use Rattle.records.proofs.RawLaws.{raw-id}
 use Rattle.records.proofs.SaidLaws.{named-total, derived-total, located-total}
 use Rattle.reading.specs.declared.Counts.{Counts}
 use Rattle.reading.specs.declared.FileRead.{FileRead}
 use Rattle.reading.specs.declared.FileRead.the-variants.{Refused}
-use Rattle.reading.specs.Parts.{kids, Standing, Before, LastBefore, After, shownOf, fileBy, fromReferences, toldFile, toldSpot, Has}
+use Rattle.reading.specs.inner.Parts.{kids, Standing, Before, LastBefore, After, shownOf, fileBy, fromReferences, toldFile, toldSpot, Has}
 use Rattle.reading.proofs.SpotLaws.{has-first}
 use Rattle.reading.proofs.TableLaws.{raw-head}
 use Rattle.reading.proofs.ToldLaws.{refuse-bind}
@@ -112,7 +112,7 @@ module _ (s : List ℕ) (at total primary : ℕ) (c : Counts) (f : File) (x t v 
       }
 
 -- fromReferences
-module _ (s : List ℕ) (at : ℕ) (spots : List Spot) (st : Standing s spots) (primary : ℕ) (is : List Item) (ls : List Location) (sh : Shown) where
+module _ (s : List ℕ) (at : ℕ) (spots : List Spot) (st : Standing s spots) (primary : ℕ) (is : List Item) (ls : List Location) (sh : IprpContent) where
   pub references-none : filled (ofKind iref (kids s)) ≡ false → fromReferences at (kids s) primary is ls sh ≡ ok (fileBy at (kids s) primary is ls sh [])
   unfolding fromReferences referred _>>=_
   references-none h = let n : ofKind iref (kids s) ≡ [] = nil-filled _ h in rw n

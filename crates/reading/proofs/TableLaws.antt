@@ -6,7 +6,7 @@ use lib.ListN.{replicate, set}
 use Rattle.contents.specs.File.{File}
 use Rattle.rules.specs.Places.{Places}
 use Rattle.rules.specs.Words.{region, joinAll, propertiesFrom}
-use Rattle.records.specs.Raw.{rawOf, recordsBy, unread, associationRows, targetRows, extentRows}
+use Rattle.records.specs.inner.Raw.{rawOf, recordsBy, unread, associationRows, targetRows, extentRows}
 
 -- rawOf
 pub raw-unread : (pl : Places) → rawOf [] pl unread ≡ replicate 11280 0

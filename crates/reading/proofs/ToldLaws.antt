@@ -8,25 +8,25 @@ use Rattle.boxes.specs.Answer.{Answer, ok, refuse, _>>=_}
 use Rattle.boxes.specs.declared.Refusal.{Refusal}
 use Rattle.boxes.specs.declared.Walked.the-variants as walked
 use Rattle.boxes.specs.declared.FoundMeta.the-variants as meta
-use Rattle.boxes.specs.Family.{toldMeta, toldWalk}
+use Rattle.boxes.specs.inner.Family.{toldMeta, toldWalk}
 use Rattle.boxes.specs.Box.{headOf}
-use Rattle.boxes.specs.Top.{Spot}
+use Rattle.boxes.specs.Top.{PlacedBox}
 use Rattle.contents.specs.Iinf.{Item}
 use Rattle.contents.specs.Iloc.{Location, extentsIn}
 use Rattle.contents.specs.Ipma.{associationsIn}
-use Rattle.contents.specs.Iprp.{Shown}
+use Rattle.contents.specs.Iprp.{IprpContent}
 use Rattle.contents.specs.Iref.{Derivation, targetsIn}
-use Rattle.contents.specs.Told.{toldHdlr, toldPitm}
+use Rattle.contents.specs.inner.Told.{toldHdlr, toldPitm}
 use Rattle.contents.specs.declared.HdlrRead.the-variants as hdlr
 use Rattle.contents.specs.declared.PitmRead.the-variants as pitm
 use Rattle.table.specs.declared.ItemId.{ItemId}
-use Rattle.items.specs.Told.{toldItems}
+use Rattle.items.specs.inner.Told.{toldItems}
 use Rattle.items.specs.declared.ItemsRead.the-variants as items
-use Rattle.locations.specs.Told.{toldLocations}
+use Rattle.locations.specs.inner.Told.{toldLocations}
 use Rattle.locations.specs.declared.LocationsRead.the-variants as locations
-use Rattle.properties.specs.Told.{toldShown}
+use Rattle.properties.specs.inner.Told.{toldShown}
 use Rattle.properties.specs.declared.ShownRead.the-variants as shown
-use Rattle.references.specs.Told.{toldReferences}
+use Rattle.references.specs.inner.Told.{toldReferences}
 use Rattle.references.specs.declared.ReferencesRead.the-variants as references
 
 -- a refusal that is told is that refusal: for any telling that keeps refusals apart
@@ -97,11 +97,11 @@ locations-ok (ok a) k e = (a, refl, (let q : extentsIn a ≡ k = cc in q))
 locations-ok (refuse n p) k e = let z : _≡_ {A = ℕ} 0 1 = cc in absurd (omega arith)
 
 -- toldShown
-pub shown-refused : (m : Answer Shown) (r : Refusal) → toldShown m ≡ shown.Refused r → m ≡ refuse (r .number) (r .place)
+pub shown-refused : (m : Answer IprpContent) (r : Refusal) → toldShown m ≡ shown.Refused r → m ≡ refuse (r .number) (r .place)
 unfolding toldShown
 shown-refused m r e = told-refused toldShown shown.Refused (λ n p. refl) (λ r q e. cc) (λ a r e. let z : _≡_ {A = ℕ} 0 1 = cc in absurd (omega arith)) m r e
 
-pub shown-ok : (m : Answer Shown) (k l : ℕ) → toldShown m ≡ shown.Shown k l → (a : Shown) × (m ≡ ok a) ×
+pub shown-ok : (m : Answer IprpContent) (k l : ℕ) → toldShown m ≡ shown.Shown k l → (a : IprpContent) × (m ≡ ok a) ×
     (length (a .properties) ≡ k) × (associationsIn (a .associations) ≡ l)
 unfolding toldShown
 shown-ok (ok a) k l e = (a, refl, (let q : length (a .properties) ≡ k = cc in q), (let q : associationsIn (a .associations) ≡ l = cc in q))
@@ -114,11 +114,11 @@ references-ok (ok a) k e = (a, refl, (let q : targetsIn a ≡ k = cc in q))
 references-ok (refuse n p) k e = let z : _≡_ {A = ℕ} 0 1 = cc in absurd (omega arith)
 
 -- toldMeta
-pub meta-refused : (m : Answer Spot) (r : Refusal) → toldMeta m ≡ meta.Refused r → m ≡ refuse (r .number) (r .place)
+pub meta-refused : (m : Answer PlacedBox) (r : Refusal) → toldMeta m ≡ meta.Refused r → m ≡ refuse (r .number) (r .place)
 unfolding toldMeta
 meta-refused m r e = told-refused toldMeta meta.Refused (λ n p. refl) (λ r q e. cc) (λ a r e. let z : _≡_ {A = ℕ} 0 1 = cc in absurd (omega arith)) m r e
 
-pub meta-ok : (m : Answer Spot) (s b e : ℕ) → toldMeta m ≡ meta.At s b e → (a : Spot) × (m ≡ ok a) × (a .place ≡ s) ×
+pub meta-ok : (m : Answer PlacedBox) (s b e : ℕ) → toldMeta m ≡ meta.At s b e → (a : PlacedBox) × (m ≡ ok a) × (a .place ≡ s) ×
     (a .place + headOf (a .box) ≡ b) × (a .place + length (a .box) ≡ e)
 unfolding toldMeta
 meta-ok (ok a) s b e h = (

@@ -23,8 +23,8 @@ use Rattle.boxes.proofs.BoxLaws.{short-head}
 use Rattle.boxes.proofs.WhereLaws.{body-part}
 use Rattle.boxes.proofs.TopLaws.{meta-sound}
 use Rattle.boxes.specs.Children.{placeOf, children}
-use Rattle.boxes.specs.Where.{whereOf}
-use Rattle.boxes.specs.Family.{spotOf, spotsOf, toldWalk, toldMeta}
+use Rattle.boxes.specs.inner.Where.{whereOf}
+use Rattle.boxes.specs.inner.Family.{spotOf, spotsOf, toldWalk, toldMeta}
 use Rattle.boxes.specs.declared.Walked.the-variants as walked
 use Rattle.boxes.specs.declared.Spot.{Spot}
 use Rattle.boxes.specs.declared.Refusal.{Refusal}
@@ -33,7 +33,7 @@ use Rattle.contents.specs.File.{File, contentsOf, fileOf, readFile}
 use Rattle.contents.specs.Hdlr.{hdlr-form}
 use Rattle.contents.specs.Pitm.{pitm-form}
 use Rattle.contents.specs.Full.{full, between, upto}
-use Rattle.contents.specs.Told.{toldHdlr, toldPitm, toldFull}
+use Rattle.contents.specs.inner.Told.{toldHdlr, toldPitm, toldFull}
 use Rattle.contents.specs.declared.HdlrRead.the-variants as hdlr-read
 use Rattle.contents.specs.declared.PitmRead.the-variants as pitm-read
 use Rattle.contents.specs.declared.FullRead.the-variants as full-read
@@ -42,13 +42,13 @@ use Rattle.forms.specs.Form.{whole, front}
 use Rattle.table.specs.declared.ItemId.{ItemId}
 use Rattle.rules.specs.Places.{Places, placesAt, placesIn}
 use Rattle.rules.specs.Words.{headWords}
-use Rattle.table.specs.Clear.{cleared}
-use Rattle.records.specs.Raw.{rawOf}
-use Rattle.records.specs.Stage.{Kept, Ready, withItems}
-use Rattle.items.specs.Told.{toldItems, ItemsLeft}
+use Rattle.table.specs.inner.Clear.{cleared}
+use Rattle.records.specs.inner.Raw.{rawOf}
+use Rattle.records.specs.inner.Stage.{Kept, Ready, withItems}
+use Rattle.items.specs.inner.Told.{toldItems, ItemsLeft}
 use Rattle.items.specs.declared.ItemsRead.the-variants as items-read
 use Rattle.items.proofs.ReadyLaws.{items-ready}
-use Rattle.reading.specs.Parts.{
+use Rattle.reading.specs.inner.Parts.{
   kids,
   spotsIn,
   Missing,
@@ -65,7 +65,7 @@ use Rattle.reading.specs.Parts.{
   toldFile,
   readAnswer,
   readWords,
-  leftBy,
+  leftByReading,
 }
 use Rattle.reading.specs.declared.FileRead.{FileRead}
 use Rattle.reading.specs.declared.FileRead.the-variants.{Is, Refused}
@@ -306,7 +306,7 @@ module _ (total : ℕ) (head : List ℕ) (h : length head ≤ 65536) (k : length
       record { answer = sym (ap (toldFile (placesIn total head .idat)) e); left = λ g z. no-file _ r g e z }
 
   module _ (s b e : ℕ) (q : toldMeta (metaIn total head) ≡ found-meta.At s b e) where
-    abbrev metaBox : Top.Spot
+    abbrev metaBox : Top.PlacedBox
     metaBox = meta-ok _ s b e q .0
 
     pub meta-room : MetaPart head (metaBox .box) b e
@@ -371,20 +371,20 @@ module _ (total : ℕ) (head t : List ℕ) where
   unfolding readAnswer toldFile check _>>_ readWords
   table-short h =
       let e = lt-leb 11280 (length t) h in
-      (rw e refl, sym (pick-no {t = leb 11280 (length t)} (leftBy total head t (readFile total head)) t e))
+      (rw e refl, sym (pick-no {t = leb 11280 (length t)} (leftByReading total head t (readFile total head)) t e))
 
   module _ (l : 11280 ≤ length t) where
     answer-is : (r : FileRead) → r ≡ toldFile (placesIn total head .idat) (readFile total head) → r ≡ readAnswer (length t) total head
     unfolding readAnswer
     answer-is r e = e ∙ ap (toldFile (placesIn total head .idat)) (sym (ok-then _ _ tt (ok-check 1 0 _ (le-leb 11280 (length t) l))))
 
-    words-are : readWords total head t ≡ leftBy total head t (readFile total head)
+    words-are : readWords total head t ≡ leftByReading total head t (readFile total head)
     unfolding readWords
-    words-are = pick-yes {t = leb 11280 (length t)} (leftBy total head t (readFile total head)) t (le-leb 11280 (length t) l)
+    words-are = pick-yes {t = leb 11280 (length t)} (leftByReading total head t (readFile total head)) t (le-leb 11280 (length t) l)
 
     gone : (r : Refusal) (u : List ℕ) → readFile total head ≡ refuse (r .number) (r .place) → u ≡ replicate 11280 0 ++ drop 11280 t → Promised (Refused r) u
-    unfolding toldFile leftBy
-    gone r u e w = (answer-is _ (sym (ap (toldFile (placesIn total head .idat)) e)), w ∙ sym (words-are ∙ ap (leftBy total head t) e))
+    unfolding toldFile leftByReading
+    gone r u e w = (answer-is _ (sym (ap (toldFile (placesIn total head .idat)) e)), w ∙ sym (words-are ∙ ap (leftByReading total head t) e))
 
     pub head-long : (u : List ℕ) → u ≡ cleared t → 65536 < length head → Promised (Refused (record { number = 2; place = 0 })) u
     head-long u w h = gone _ u (read-long total head h) (w ∙ clear-is t l)
@@ -403,7 +403,7 @@ module _ (total : ℕ) (head t : List ℕ) where
         gone r v (file-refused _ _ r (sym q ∙ a .answer)) (c ∙ clear-is u (omega arith) ∙ ap (λ (z : List ℕ). replicate 11280 0 ++ z) p)
 
     pub head-read : (u : List ℕ) (i j : ℕ) (y : FileRead) → ReadLeft total head y (drop 11280 t) u → y ≡ Is i j → Promised (Is i j) u
-    unfolding leftBy
+    unfolding leftByReading
     head-read u i j y a q =
         let o = file-ok _ _ i j (sym q ∙ a .answer) in
-        (answer-is _ (sym q ∙ a .answer), a .left (o .0) (o .1) ∙ sym (words-are ∙ ap (leftBy total head t) (o .1)))
+        (answer-is _ (sym q ∙ a .answer), a .left (o .0) (o .1) ∙ sym (words-are ∙ ap (leftByReading total head t) (o .1)))

@@ -8,14 +8,14 @@ ghost use Rattle.boxes.specs.Box.{IsBox};
 ghost use Rattle.contents.specs.Iinf.{Item};
 ghost use Rattle.contents.specs.Iloc.{Location, extentsIn};
 ghost use Rattle.contents.specs.Ipma.{associationsIn};
-ghost use Rattle.contents.specs.Iprp.{Shown};
+ghost use Rattle.contents.specs.Iprp.{IprpContent};
 ghost use Rattle.contents.specs.File.{File, contentsOf, fileOf};
 ghost use Rattle.rules.specs.Places.{placesAt};
-ghost use Rattle.records.specs.Raw.{unread, rawOf};
-ghost use Rattle.records.specs.Stage.{Kept, withItems, withLocations, withProperties, withNames};
-ghost use Rattle.records.specs.Rows.{Rowed};
+ghost use Rattle.records.specs.inner.Raw.{unread, rawOf};
+ghost use Rattle.records.specs.inner.Stage.{Kept, withItems, withLocations, withProperties, withNames};
+ghost use Rattle.records.specs.inner.Rows.{Rowed};
 ghost use Rattle.reading.specs.declared.FileRead.the-variants.{Is};
-ghost use Rattle.reading.specs.Parts.{
+ghost use Rattle.reading.specs.inner.Parts.{
   kids,
   Standing,
   Before,
@@ -171,7 +171,7 @@ fn read_iprp(
     let end = p.end;
     let place = (at + start) as u64;
     let base = (at + body) as u64;
-    let t = properties::read_shown(&s[body..end], place, base, table, n, slots);
+    let t = properties::read_iprp_content(&s[body..end], place, base, table, n, slots);
     match t {
         ShownRead::Refused(f) => FileRead::Refused(f),
         ShownRead::Shown {

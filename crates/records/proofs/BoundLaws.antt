@@ -11,8 +11,8 @@ use Rattle.contents.specs.File.{File, readFile}
 use Rattle.contents.proofs.ReadLaws.{read-sound}
 use Rattle.contents.proofs.SumLaws.{ids-more}
 use Rattle.contents.proofs.LimitLaws.{through-keeps, infe-new, items-few, extents-few, associations-few, targets-few}
-use Rattle.records.specs.Raw.{Bounded}
-use Rattle.records.specs.Rows.{Distinct}
+use Rattle.records.specs.inner.Raw.{Bounded}
+use Rattle.records.specs.inner.Rows.{Distinct}
 use Rattle.records.proofs.MemberLaws.{distinct-more}
 
 -- Items

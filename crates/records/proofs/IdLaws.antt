@@ -14,8 +14,8 @@ use Rattle.contents.specs.Iinf.{idsOf}
 use Rattle.contents.specs.File.{File}
 use Rattle.rules.specs.Places.{Places}
 use Rattle.table.specs.declared.ItemRow.{ItemRow}
-use Rattle.records.specs.Raw.{rawOf}
-use Rattle.records.specs.Rows.{idAt, idsIn, Distinct, FoundIs}
+use Rattle.records.specs.inner.Raw.{rawOf}
+use Rattle.records.specs.inner.Rows.{idAt, idsIn, Distinct, FoundIs}
 use Rattle.records.specs.declared.FoundRow.{FoundRow}
 use Rattle.records.specs.declared.FoundRow.the-variants.{At, Nothing}
 use Rattle.records.proofs.MemberLaws.{member-none, distinct-place}

@@ -5,7 +5,7 @@ use mathlib.Core.Path.{_≡_, refl, _∙_}
 use mathlib.Core.List.{List, [], _∷_}
 use lib.ListN.{length, set, drop}
 use lib.Seq.{sets, length-sets, drop-set-lt}
-use Rattle.records.specs.Stage.{Kept}
+use Rattle.records.specs.inner.Stage.{Kept}
 
 -- drop
 pub drop-sets : (vs l : List ℕ) (i n : ℕ) → i + length vs ≤ n → drop n (sets l i vs) ≡ drop n l

@@ -10,7 +10,7 @@ use lib.Dec.{eqb}
 use borrow.Author.Tests.{eq-eqb, ne-eqb, eqb-false}
 use Rattle.fields.specs.Lists.{member}
 use Rattle.fields.proofs.TestLaws.{or-neither, member-at}
-use Rattle.records.specs.Rows.{Distinct}
+use Rattle.records.specs.inner.Rows.{Distinct}
 
 -- _||_
 or-true : (a : Bool) → (a || true) ≡ true

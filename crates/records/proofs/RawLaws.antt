@@ -17,14 +17,14 @@ use Rattle.fields.specs.Lists.{member}
 use Rattle.boxes.specs.Box.{kindOf, flat}
 use Rattle.contents.specs.Iinf.{Item, idsOf}
 use Rattle.contents.specs.Iloc.{Extent, Location, locatedIn, extentsIn}
-use Rattle.contents.specs.Ipma.{Association, Named, associationsIn}
+use Rattle.contents.specs.Ipma.{Association, IpmaEntry, associationsIn}
 use Rattle.contents.specs.Iref.{Derivation, derivedIn, targetsIn}
 use Rattle.contents.specs.File.{File}
 use Rattle.rules.specs.Joined.{derivedFrom, rowOf, noItem, itemAt}
 use Rattle.rules.specs.Places.{Places}
 use Rattle.rules.specs.Words.{joinAll, region, propertiesFrom, associationWord}
 use Rattle.fields.proofs.TestLaws.{member-at}
-use Rattle.records.specs.Raw.{
+use Rattle.records.specs.inner.Raw.{
   addItem,
   addLocation,
   addProperty,
@@ -42,7 +42,7 @@ use Rattle.records.specs.Raw.{
   targetRows,
   rawOf,
 }
-use Rattle.records.specs.Rows.{idAt, Distinct, FoundIs}
+use Rattle.records.specs.inner.Rows.{idAt, Distinct, FoundIs}
 use Rattle.records.specs.declared.FoundRow.the-variants.{At, Nothing}
 use Rattle.table.specs.declared.ItemRow.{ItemRow}
 use Rattle.records.proofs.JoinLaws.{join-snoc, join-length, join-getD, join-sets}
@@ -97,7 +97,7 @@ pub row-length : (f : File) (i : Item) → length (rowWords f i) ≡ 16
 unfolding recordOf namedWords derivedWords placeWords
 row-length f i = refl
 
-named-length : (ns : List Named) (y : ℕ) → length (namedWords ns y) ≡ 2
+named-length : (ns : List IpmaEntry) (y : ℕ) → length (namedWords ns y) ≡ 2
 unfolding namedWords
 named-length ns y = refl
 
@@ -135,7 +135,7 @@ properties-snoc at (c ∷ bs) b =
     rw (properties-snoc (at + length c) bs b, e)
 
 -- associationRows
-pub associations-length : (ns : List Named) → length (associationRows ns) ≡ associationsIn ns
+pub associations-length : (ns : List IpmaEntry) → length (associationRows ns) ≡ associationsIn ns
 unfolding associationRows associationsIn joinAll
 associations-length [] = refl
 associations-length (n ∷ ns) = rw (length-append, length-map, associations-length ns)
@@ -345,7 +345,7 @@ module _ (f g : File) (same : g .items ≡ f .items) (y k : ℕ) (vs : List ℕ)
 
 -- rowWords: what one more entry changes in the record of the item with its ID
 module _ (f : File) (i : Item) where
-  named-row : (n : Named) → member (n .id) (namedIn (f .associations)) ≡ false → i .id ≡ n .id
+  named-row : (n : IpmaEntry) → member (n .id) (namedIn (f .associations)) ≡ false → i .id ≡ n .id
       → rowWords (addNamed f n) i ≡ sets (rowWords f i) 3 (pick (eqb (length (n .list)) 0) 0 (associationsIn (f .associations)) ∷ length (n .list) ∷ [])
   named-row n new e =
       let a = namedWords (f .associations) (i .id) in
@@ -354,7 +354,7 @@ module _ (f : File) (i : Item) where
       ap (λ (w : List ℕ). recordOf i w t l) (ap (namedWords (f .associations ++ (n ∷ []))) e ∙ named-last (f .associations) n new)
       ∙ record-named i a t l _ (named-length (f .associations) (i .id))
 
-  named-apart : (n : Named) → (i .id ≡ n .id → ⊥) → rowWords f i ≡ rowWords (addNamed f n) i
+  named-apart : (n : IpmaEntry) → (i .id ≡ n .id → ⊥) → rowWords f i ≡ rowWords (addNamed f n) i
   named-apart n h =
       ap (λ (w : List ℕ). recordOf i w (derivedWords (f .derivations) (i .id)) (placeWords (f .locations) (i .id)))
       (sym (named-other (f .associations) n (i .id) h))
@@ -389,10 +389,10 @@ module _ (f : File) (i : Item) where
       (sym (place-other (f .locations) l (i .id) h))
 
 -- associationRows, targetRows, extentRows
-associations-snoc : (ns : List Named) (n : Named) → associationRows (ns ++ (n ∷ [])) ≡ associationRows ns ++
+associations-snoc : (ns : List IpmaEntry) (n : IpmaEntry) → associationRows (ns ++ (n ∷ [])) ≡ associationRows ns ++
     map (λ (a : Association). associationWord a) (n .list)
 unfolding associationRows
-associations-snoc ns n = join-snoc (λ (m : Named). map (λ (a : Association). associationWord a) (m .list)) ns n
+associations-snoc ns n = join-snoc (λ (m : IpmaEntry). map (λ (a : Association). associationWord a) (m .list)) ns n
 
 targets-snoc : (ds : List Derivation) (d : Derivation) → targetRows (ds ++ (d ∷ [])) ≡ targetRows ds ++ d .targets
 unfolding targetRows
@@ -415,7 +415,7 @@ two-runs t u h r q y z ws vs m i k et eu ez eq lh lr l ek =
 -- rawOf: one more list of associations, derivation or location of an item in row r, of which nothing was said yet
 module _ (hw : List ℕ) (pl : Places) (x : List ℕ) (small : length hw ≤ 16) (f : File) (bd : Bounded f) (r : ℕ)
     (ds : Distinct (idsOf (f .items))) (h : r < length (f .items)) where
-  pub raw-named : (n : Named) → getD (idsOf (f .items)) r 0 ≡ n .id → member (n .id) (namedIn (f .associations)) ≡ false
+  pub raw-named : (n : IpmaEntry) → getD (idsOf (f .items)) r 0 ≡ n .id → member (n .id) (namedIn (f .associations)) ≡ false
       → associationsIn (f .associations) + length (n .list) ≤ 2048
       → rawOf hw pl (addNamed f n) ++ x
       ≡ sets

@@ -12,17 +12,17 @@ use Rattle.fields.specs.Choice.{pick}
 use Rattle.fields.specs.Lists.{member}
 use Rattle.fields.proofs.FieldLaws.{pick-yes, pick-no}
 use Rattle.contents.specs.Iloc.{Location, locatedIn, extentsIn}
-use Rattle.contents.specs.Ipma.{Named, associationsIn}
+use Rattle.contents.specs.Ipma.{IpmaEntry, associationsIn}
 use Rattle.contents.specs.Iref.{Derivation, derivedIn, targetsIn}
 use Rattle.rules.specs.Joined.{locatedAt, namedFor, derivedFrom}
 use Rattle.rules.specs.Words.{Group, firstIn, totalOf, namedGroups, derivedGroups, locatedGroups}
 use Rattle.contents.proofs.SumLaws.{located-in}
-use Rattle.records.specs.Raw.{namedWords, derivedWords, placeWords}
+use Rattle.records.specs.inner.Raw.{namedWords, derivedWords, placeWords}
 use Rattle.records.proofs.MemberLaws.{member-neither, member-last, member-other}
 
 -- the IDs of the entries of an `ipma`
-abbrev pub namedIn : List Named → List ℕ
-namedIn ns = map (λ (n : Named). n .id) ns
+abbrev pub namedIn : List IpmaEntry → List ℕ
+namedIn ns = map (λ (n : IpmaEntry). n .id) ns
 
 -- an answer by ID: that of the first entry that has the ID
 module _ {A B : Type 0} (key : A → ℕ) (of : A → B) (at : List A → ℕ → B)
@@ -55,7 +55,7 @@ module _ {A : Type 0} (key count : A → ℕ) where
   first-other (b ∷ es) a k x n = ap (pick (eqb (key b) x) k) (first-other es a (k + count b) x n)
 
 -- totalOf
-pub named-total : (ns : List Named) → totalOf (namedGroups ns) ≡ associationsIn ns
+pub named-total : (ns : List IpmaEntry) → totalOf (namedGroups ns) ≡ associationsIn ns
 unfolding totalOf associationsIn
 named-total [] = refl
 named-total (n ∷ ns) = rw (named-total ns)
@@ -71,29 +71,29 @@ located-total [] = refl
 located-total (l ∷ ls) = rw (located-total ls)
 
 -- namedFor
-pub named-for-last : (ns : List Named) (n : Named) → member (n .id) (namedIn ns) ≡ false → namedFor (ns ++ (n ∷ [])) (n .id) ≡ n .list
+pub named-for-last : (ns : List IpmaEntry) (n : IpmaEntry) → member (n .id) (namedIn ns) ≡ false → namedFor (ns ++ (n ∷ [])) (n .id) ≡ n .list
 unfolding namedFor
-named-for-last ns n e = at-last (λ (m : Named). m .id) (λ (m : Named). m .list) namedFor (λ a es x. refl) ns n e
+named-for-last ns n e = at-last (λ (m : IpmaEntry). m .id) (λ (m : IpmaEntry). m .list) namedFor (λ a es x. refl) ns n e
 
-pub named-for-other : (ns : List Named) (n : Named) (x : ℕ) → (x ≡ n .id → ⊥) → namedFor (ns ++ (n ∷ [])) x ≡ namedFor ns x
+pub named-for-other : (ns : List IpmaEntry) (n : IpmaEntry) (x : ℕ) → (x ≡ n .id → ⊥) → namedFor (ns ++ (n ∷ [])) x ≡ namedFor ns x
 unfolding namedFor
-named-for-other ns n x h = at-other (λ (m : Named). m .id) (λ (m : Named). m .list) namedFor (λ a es x. refl) ns n x h
+named-for-other ns n x h = at-other (λ (m : IpmaEntry). m .id) (λ (m : IpmaEntry). m .list) namedFor (λ a es x. refl) ns n x h
 
 -- namedWords
 pub named-none : (x : ℕ) → namedWords [] x ≡ 0 ∷ 0 ∷ []
 unfolding namedWords namedFor pick
 named-none x = refl
 
-pub named-last : (ns : List Named) (n : Named) → member (n .id) (namedIn ns) ≡ false
+pub named-last : (ns : List IpmaEntry) (n : IpmaEntry) → member (n .id) (namedIn ns) ≡ false
     → namedWords (ns ++ (n ∷ [])) (n .id) ≡ pick (eqb (length (n .list)) 0) 0 (associationsIn ns) ∷ length (n .list) ∷ []
 unfolding namedWords
 named-last ns n e =
-    rw (named-for-last ns n e, first-last (λ (m : Named). m .id) (λ (m : Named). length (m .list)) ns n 0 e, zero-add, named-total ns)
+    rw (named-for-last ns n e, first-last (λ (m : IpmaEntry). m .id) (λ (m : IpmaEntry). length (m .list)) ns n 0 e, zero-add, named-total ns)
 
-pub named-other : (ns : List Named) (n : Named) (x : ℕ) → (x ≡ n .id → ⊥) → namedWords (ns ++ (n ∷ [])) x ≡ namedWords ns x
+pub named-other : (ns : List IpmaEntry) (n : IpmaEntry) (x : ℕ) → (x ≡ n .id → ⊥) → namedWords (ns ++ (n ∷ [])) x ≡ namedWords ns x
 unfolding namedWords
 named-other ns n x h =
-    rw (named-for-other ns n x h, first-other (λ (m : Named). m .id) (λ (m : Named). length (m .list)) ns n 0 x h)
+    rw (named-for-other ns n x h, first-other (λ (m : IpmaEntry). m .id) (λ (m : IpmaEntry). length (m .list)) ns n 0 x h)
 
 -- derivedFrom
 pub derived-from-last : (ds : List Derivation) (d : Derivation) → member (d .id) (derivedIn ds) ≡ false → derivedFrom (ds ++ (d ∷ [])) (d .id) ≡ d .targets

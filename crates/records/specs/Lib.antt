@@ -1,3 +1,1 @@
-pub mod Raw
-pub mod Rows
-pub mod Stage
+pub mod inner

@@ -4,7 +4,7 @@ ghost use mathlib.Core.Bool.{true};
 ghost use mathlib.Core.Logic.{_⊎_};
 ghost use Prim.Native.Nat.{_+_, _≤_, _<_};
 ghost use lib.ListN.{length};
-ghost use Rattle.records.specs.Rows.{idAt, slotOf, FoundIs};
+ghost use Rattle.records.specs.inner.Rows.{idAt, slotOf, FoundIs};
 ghost use Rattle.records.specs.declared.FoundRow.the-variants.{At};
 use table::ItemId;
 use table::ItemRow;

@@ -11,7 +11,7 @@ use Rattle.fields.specs.Choice.{pick}
 use Rattle.boxes.specs.Answer.{Answer, ok, refuse, _>>=_}
 use Rattle.boxes.specs.Types.{dimg}
 use Rattle.boxes.specs.Children.{contain}
-use Rattle.boxes.specs.Header.{childAt}
+use Rattle.boxes.specs.inner.Header.{childAt}
 use Rattle.boxes.specs.declared.Child.the-variants as child
 use Rattle.boxes.specs.declared.Refusal.{Refusal}
 use Rattle.boxes.proofs.AnswerLaws.{bind-ok, ok-inj}
@@ -20,14 +20,14 @@ use Rattle.forms.specs.Form.{whole}
 use Rattle.contents.specs.Iref.{Derivation, targetsIn, reference-form, reference}
 use Rattle.contents.specs.File.{File}
 use Rattle.rules.specs.Places.{Places}
-use Rattle.records.specs.Raw.{rawOf}
-use Rattle.records.specs.Rows.{idAt, idsIn, Distinct}
-use Rattle.records.specs.Stage.{Kept, Ready, withDerivations}
+use Rattle.records.specs.inner.Raw.{rawOf}
+use Rattle.records.specs.inner.Rows.{idAt, idsIn, Distinct}
+use Rattle.records.specs.inner.Stage.{Kept, Ready, withDerivations}
 use Rattle.contents.proofs.SumLaws.{targets-more}
 use Rattle.records.proofs.IdLaws.{ids-same}
 use Rattle.records.proofs.KeptLaws.{kept-same, kept-on}
-use Rattle.references.specs.Told.{toldReferences}
-use Rattle.references.specs.Steps.{Marked, stepped, Stored, Put, ChildrenLeft}
+use Rattle.references.specs.inner.Told.{toldReferences}
+use Rattle.references.specs.inner.Steps.{Marked, stepped, Stored, Put, ChildrenLeft}
 use Rattle.references.specs.declared.ReferencesRead.{ReferencesRead}
 use Rattle.references.specs.declared.ReferencesRead.the-variants as read
 use Rattle.references.proofs.StoredLaws.{stored-ids, stored-marked, stored-raw}

@@ -15,14 +15,14 @@ use Rattle.contents.specs.File.{File}
 use Rattle.contents.proofs.FullLaws.{FullHere}
 use Rattle.rules.specs.Joined.{derivedFrom}
 use Rattle.rules.specs.Places.{Places}
-use Rattle.records.specs.Raw.{rawOf}
-use Rattle.records.specs.Rows.{idsIn, Distinct}
-use Rattle.records.specs.Stage.{Ready}
+use Rattle.records.specs.inner.Raw.{rawOf}
+use Rattle.records.specs.inner.Rows.{idsIn, Distinct}
+use Rattle.records.specs.inner.Stage.{Ready}
 use Rattle.records.proofs.RawLaws.{raw-derived}
 use Rattle.records.proofs.IdLaws.{raw-ids}
 use Rattle.records.proofs.KeptLaws.{kept-same}
-use Rattle.references.specs.Told.{toldReferences, ReferencesLeft}
-use Rattle.references.specs.Steps.{ChildrenLeft}
+use Rattle.references.specs.inner.Told.{toldReferences, ReferencesLeft}
+use Rattle.references.specs.inner.Steps.{ChildrenLeft}
 use Rattle.references.specs.declared.ReferencesRead.{ReferencesRead}
 use Rattle.references.specs.declared.ReferencesRead.the-variants as read
 

@@ -16,14 +16,14 @@ use Rattle.boxes.specs.declared.Refusal.{Refusal}
 use Rattle.boxes.proofs.AnswerLaws.{ok-inj}
 use Rattle.forms.specs.Form.{whole}
 use Rattle.contents.specs.Iref.{Derivation, derivedIn, targetsIn, reference-form}
-use Rattle.records.specs.Rows.{idAt, idsIn, FoundIs}
-use Rattle.records.specs.Stage.{Kept}
+use Rattle.records.specs.inner.Rows.{idAt, idsIn, FoundIs}
+use Rattle.records.specs.inner.Stage.{Kept}
 use Rattle.records.specs.declared.FoundRow.the-variants.{Nothing}
 use Rattle.contents.proofs.SumLaws.{targets-more}
 use Rattle.records.proofs.IdLaws.{row-listed, row-missing}
 use Rattle.records.proofs.KeptLaws.{kept-on, kept-sets}
-use Rattle.references.specs.Told.{toldReferences}
-use Rattle.references.specs.Steps.{Marked, stepped, targetsFrom, toldTargets, TargetsLeft, Stored, Put}
+use Rattle.references.specs.inner.Told.{toldReferences}
+use Rattle.references.specs.inner.Steps.{Marked, stepped, targetsFrom, toldTargets, TargetsLeft, Stored, Put}
 use Rattle.references.specs.declared.ReferencesRead.{ReferencesRead}
 use Rattle.references.specs.declared.ReferencesRead.the-variants as read
 use Rattle.references.specs.declared.TargetsPut.the-variants as targets

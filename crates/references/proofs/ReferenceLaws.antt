@@ -13,7 +13,7 @@ use Rattle.boxes.specs.Answer as Ans
 use Rattle.forms.specs.Form.{Form, Got, got, give, demand, many, finish, whole, _>>=_, _>>_}
 use Rattle.forms.proofs.StepLaws.{passing, reads, over, whole-reads, reads-bind, reads-field, reads-short, reads-yes, reads-no}
 use Rattle.contents.specs.Iref.{Derivation, derivedIn, targetsIn, target-form, reference-form}
-use Rattle.references.specs.Steps.{targetsFrom}
+use Rattle.references.specs.inner.Steps.{targetsFrom}
 
 -- a form and then a value made of what it gave, as all of a content
 whole-give : {A B : Type 0} (f : Form A) (g : A → B) (p : ℕ) (r : List ℕ) →

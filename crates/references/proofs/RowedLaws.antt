@@ -11,7 +11,7 @@ use lib.Seq.{sets, length-sets, getD-set-same, getD-set-other}
 use native.Mathlib.Decide.{decLe}
 use Rattle.fields.specs.Choice.{pick}
 use Rattle.boxes.specs.declared.Refusal.{Refusal}
-use Rattle.records.specs.Rows.{idAt, FoundIs, RowedTo}
+use Rattle.records.specs.inner.Rows.{idAt, FoundIs, RowedTo}
 use Rattle.records.specs.declared.FoundRow.the-variants.{At}
 use Rattle.records.proofs.SetsLaws.{sets-below, sets-above}
 use Rattle.table.specs.declared.ItemRow.{ItemRow}

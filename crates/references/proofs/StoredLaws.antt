@@ -16,14 +16,14 @@ use Rattle.contents.specs.Iinf.{idsOf}
 use Rattle.contents.specs.Iref.{Derivation, derivedIn, targetsIn}
 use Rattle.contents.specs.File.{File}
 use Rattle.rules.specs.Places.{Places}
-use Rattle.records.specs.Raw.{Bounded, rawOf}
-use Rattle.records.specs.Rows.{idAt, idsIn, Distinct}
-use Rattle.records.specs.Stage.{Ready, withDerivations}
+use Rattle.records.specs.inner.Raw.{Bounded, rawOf}
+use Rattle.records.specs.inner.Rows.{idAt, idsIn, Distinct}
+use Rattle.records.specs.inner.Stage.{Ready, withDerivations}
 use Rattle.records.proofs.MemberLaws.{member-last, member-other}
 use Rattle.records.proofs.RawLaws.{raw-id, raw-derivation}
 use Rattle.records.proofs.SetsLaws.{sets-below, sets-above, sets-in}
 use Rattle.records.proofs.IdLaws.{distinct-rows}
-use Rattle.references.specs.Steps.{Marked, Stored}
+use Rattle.references.specs.inner.Steps.{Marked, Stored}
 
 -- sets: a run of two
 pub sets-two : (t : List ℕ) (a b x y : ℕ) → a ≡ b → set (set t (a + 5) x) (a + 6) y ≡ sets t (b + 5) (x ∷ y ∷ [])

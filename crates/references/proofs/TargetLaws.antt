@@ -28,14 +28,14 @@ use Rattle.forms.proofs.StepLaws.{
   over-left,
 }
 use Rattle.contents.specs.Iref.{target-form}
-use Rattle.records.specs.Rows.{idAt, idsIn, FoundIs}
-use Rattle.records.specs.Stage.{Kept}
+use Rattle.records.specs.inner.Rows.{idAt, idsIn, FoundIs}
+use Rattle.records.specs.inner.Stage.{Kept}
 use Rattle.records.specs.declared.FoundRow.the-variants.{At, Nothing}
 use Rattle.records.proofs.SetsLaws.{sets-below, sets-append}
 use Rattle.table.specs.declared.ItemRow.{ItemRow}
 use Rattle.records.proofs.IdLaws.{row-listed, row-missing}
 use Rattle.records.proofs.KeptLaws.{kept-sets}
-use Rattle.references.specs.Steps.{targetsFrom, toldTargets, TargetsLeft}
+use Rattle.references.specs.inner.Steps.{targetsFrom, toldTargets, TargetsLeft}
 use Rattle.references.specs.declared.TargetsPut.{TargetsPut}
 use Rattle.references.specs.declared.TargetsPut.the-variants as targets
 

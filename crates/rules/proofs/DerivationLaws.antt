@@ -16,11 +16,11 @@ use Rattle.fields.proofs.TestLaws.{untrue, and-both, or-either}
 use Rattle.boxes.specs.Answer.{Answer, ok, refuse, check, _>>=_, _>>_}
 use Rattle.boxes.specs.Types.{iden, grid, coded, derived, image}
 use Rattle.boxes.proofs.AnswerLaws.{bind-ok, then-ok, check-ok, ok-inj}
-use Rattle.forms.specs.Form.{whole-sound}
+use Rattle.forms.proofs.WholeLaws.{whole-sound}
 use Rattle.contents.specs.Iinf.{Item}
 use Rattle.contents.specs.File.{File}
 use Rattle.pictures.specs.Recipe.{Recipe, Coded, Copy, Opaque, Tiles, Layers, grid-form, iovl-form}
-use Rattle.pictures.specs.GoodScene.{Shaped}
+use Rattle.pictures.specs.inner.GoodScene.{Shaped}
 use Rattle.pictures.proofs.RecipeLaws.{grid-some, iovl-offsets}
 use Rattle.rules.specs.Joined.{targetsOf, rowOf, itemAt}
 use Rattle.rules.specs.Derivations.{nothingIn, allImages, inputsOf, copyOf, tilesOf, layersOf, recipeFor, asRule17, recipeOf}

@@ -22,7 +22,7 @@ use Rattle.pictures.specs.Decode.{turnsOf}
 use Rattle.pictures.specs.Recipe.{Recipe, Opaque}
 use Rattle.pictures.specs.Scene.{Picture, Scene, pictureAt, outputOf, goodSizes}
 use Rattle.pictures.specs.Depth.{depth}
-use Rattle.pictures.specs.GoodScene.{Shaped, GoodPicture, GoodScene}
+use Rattle.pictures.specs.inner.GoodScene.{Shaped, GoodPicture, GoodScene}
 use Rattle.pictures.proofs.SceneLaws.{good-output}
 use Rattle.pictures.proofs.DecodeLaws.{turns-fit}
 use Rattle.rules.specs.Joined.{targetsOf, boxesOf, rowOf, noItem, itemAt}
@@ -124,8 +124,8 @@ module _ (total : ℕ) (head : List ℕ) (f : File) where
         }
 
 -- sceneOf
-pub accepted-good : (total : ℕ) (head : List ℕ) (f : File) → judged total head f ≡ ok tt → GoodScene (sceneOf total head f)
-accepted-good total head f e i l = by (image (itemAt f i .type)) refl
+pub judged-good : (total : ℕ) (head : List ℕ) (f : File) → judged total head f ≡ ok tt → GoodScene (sceneOf total head f)
+judged-good total head f e i l = by (image (itemAt f i .type)) refl
   where
     by : (t : Bool) → image (itemAt f i .type) ≡ t → (pictureAt (sceneOf total head f) i .recipe ≡ Opaque) ⊎ GoodPicture (sceneOf total head f) i
     by false q = inl (opaque-at total head f i q)
@@ -137,4 +137,4 @@ unfolding accepted
 accepted-scene total head f e =
     let x = bind-ok _ _ f e in
     let y = then-ok _ _ f (x .2) in
-    subst (λ (f : File). GoodScene (sceneOf total head f)) (ok-inj _ f (y .2)) (accepted-good total head (x .0) (y .1))
+    subst (λ (f : File). GoodScene (sceneOf total head f)) (ok-inj _ f (y .2)) (judged-good total head (x .0) (y .1))

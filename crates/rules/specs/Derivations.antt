@@ -35,21 +35,21 @@ module _ (total : ℕ) (head : List ℕ) (f : File) (item : Item) where
   abbrev pub inputsOf : List ℕ
   inputsOf = targetsOf f (item .id)
 
-  abbrev pub placeOf : Location
-  placeOf = locationOf f (item .id)
+  abbrev pub itsLocation : Location
+  itsLocation = locationOf f (item .id)
 
   -- "`grid`, `iovl`: one extent, wholly in the head, version 0, exact length"
-  abbrev pub bodyOf : Answer (List ℕ)
-  bodyOf = bodyIn (storeOf total head f (placeOf .method)) placeOf
+  abbrev pub itsBody : Answer (List ℕ)
+  itsBody = bodyIn (storeOf total head f (itsLocation .method)) itsLocation
 
   -- "`iden`: one input, no extents."
   unfoldable pub copyOf : Answer Recipe
-  copyOf = check 17 (item .id) (eqb (length inputsOf) 1 && nothingIn (placeOf .extents)) >> ok Copy
+  copyOf = check 17 (item .id) (eqb (length inputsOf) 1 && nothingIn (itsLocation .extents)) >> ok Copy
 
   -- "Inputs = rows × columns"
   unfoldable pub tilesOf : Answer Recipe
   tilesOf = do
-    b ← bodyOf
+    b ← itsBody
     g ← whole grid-form 0 b
     check 17 (item .id) (eqb (length inputsOf) (g .rows * g .columns))
     ok (Tiles g)
@@ -57,7 +57,7 @@ module _ (total : ℕ) (head : List ℕ) (f : File) (item : Item) where
   -- "a signed (x, y) offset per input, at least one input"
   unfoldable pub layersOf : Answer Recipe
   layersOf = do
-    b ← bodyOf
+    b ← itsBody
     o ← whole (iovl-form (length inputsOf)) 0 b
     check 17 (item .id) (ltb 0 (length inputsOf))
     ok (Layers o)

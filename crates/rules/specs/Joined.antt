@@ -12,7 +12,7 @@ use Rattle.fields.specs.Choice.{pick}
 use Rattle.boxes.specs.Box.{kindOf}
 use Rattle.contents.specs.Iinf.{Item}
 use Rattle.contents.specs.Iloc.{Location}
-use Rattle.contents.specs.Ipma.{Association, Named}
+use Rattle.contents.specs.Ipma.{Association, IpmaEntry}
 use Rattle.contents.specs.Iref.{Derivation}
 use Rattle.contents.specs.File.{File}
 
@@ -24,7 +24,7 @@ locatedAt (l ∷ ls) id = pick (eqb (l .id) id) l (locatedAt ls id)
 abbrev pub locationOf : File → ℕ → Location
 locationOf f id = locatedAt (f .locations) id
 
-unfoldable pub namedFor : List Named → ℕ → List Association
+unfoldable pub namedFor : List IpmaEntry → ℕ → List Association
 namedFor [] id = []
 namedFor (n ∷ ns) id = pick (eqb (n .id) id) (n .list) (namedFor ns id)
 

@@ -12,7 +12,7 @@ use Rattle.boxes.specs.Answer.{Answer, ok, refuse}
 use Rattle.boxes.specs.Types.{iprp, idat}
 use Rattle.boxes.specs.Box.{headOf, bodyOf, flat, Cut, cut}
 use Rattle.boxes.specs.Children.{ofKind, filled, placeOf}
-use Rattle.boxes.specs.Top.{Spot, metaIn}
+use Rattle.boxes.specs.Top.{PlacedBox, metaIn}
 use Rattle.contents.specs.Iloc.{Extent, Location}
 use Rattle.contents.specs.File.{File}
 
@@ -33,7 +33,7 @@ placesAt at bs =
     }
 
 -- the children of `meta` begin 4 bytes into its content
-unfoldable pub placesBy : Answer Spot → Places
+unfoldable pub placesBy : Answer PlacedBox → Places
 placesBy (ok m) = placesAt (m .place + headOf (m .box) + 4) (cut (drop 4 (bodyOf (m .box))) .boxes)
 placesBy (refuse n p) = record { properties = 0; idat = 0 }
 

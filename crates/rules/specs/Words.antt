@@ -12,7 +12,7 @@ use Rattle.boxes.specs.Types.{image}
 use Rattle.boxes.specs.Box.{kindOf}
 use Rattle.contents.specs.Iinf.{Item}
 use Rattle.contents.specs.Iloc.{Extent, Location}
-use Rattle.contents.specs.Ipma.{Association, Named}
+use Rattle.contents.specs.Ipma.{Association, IpmaEntry}
 use Rattle.contents.specs.Iref.{Derivation}
 use Rattle.contents.specs.File.{File}
 use Rattle.pictures.specs.declared.Size.{Size}
@@ -51,8 +51,8 @@ firstIn id n (g ∷ gs) = pick (eqb (g .id) id) n (firstIn id (n + g .count) gs)
 abbrev pub span : ℕ → List Group → ℕ → List ℕ
 span id gs count = pick (eqb count 0) 0 (firstIn id 0 gs) ∷ count ∷ []
 
-abbrev pub namedGroups : List Named → List Group
-namedGroups ns = map (λ (n : Named). record { id = n .id; count = length (n .list) }) ns
+abbrev pub namedGroups : List IpmaEntry → List Group
+namedGroups ns = map (λ (n : IpmaEntry). record { id = n .id; count = length (n .list) }) ns
 
 abbrev pub derivedGroups : List Derivation → List Group
 derivedGroups ds = map (λ (d : Derivation). record { id = d .id; count = length (d .targets) }) ds
@@ -111,6 +111,6 @@ wordsOf total head f =
     region 16 (headWords total f)
     ++ (region 4096 (recordsFrom f (sceneOf total head f) 0 (f .items))
     ++ (region 1024 (propertiesFrom (placesIn total head .properties) (f .properties))
-    ++ (region 2048 (joinAll (λ (n : Named). map (λ (a : Association). associationWord a) (n .list)) (f .associations))
+    ++ (region 2048 (joinAll (λ (n : IpmaEntry). map (λ (a : Association). associationWord a) (n .list)) (f .associations))
     ++ (region 2048 (joinAll (λ (d : Derivation). d .targets) (f .derivations))
     ++ region 2048 (joinAll (λ (l : Location). joinAll (λ (e : Extent). extentWords (placesIn total head) l e) (l .extents)) (f .locations))))))

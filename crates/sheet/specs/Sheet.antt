@@ -1,98 +1,87 @@
--- Document 01, "Bench sheet": the starred lines a to l, each a question to the definitions and its answer.
+-- Document 01, "Bench sheet": the starred lines a to l, each a question to the definitions and its answer. Line a asks of a body; all
+-- others ask a whole file, byte for byte, as a caller does. Where a size or a trace is answered, the file is accepted.
 --   Question     what a line asks;   ask    its answer by the definitions, as numbers, or the refusal
 --   sheet        the lines, in order
-use Prim.Native.Nat.{ℕ, zero, suc, _+_}
-use mathlib.Core.List.{List, [], _∷_, _++_, map}
-use mathlib.Core.Bool.{Bool, true, false}
+use Prim.Native.Nat.{ℕ, zero, suc}
+use mathlib.Core.List.{List, [], _∷_, _++_}
+use lib.ListN.{length, replicate}
 use Rattle.fields.specs.Choice.{pick}
-use Rattle.boxes.specs.Answer.{Answer, ok, refuse, _>>=_, _>>_}
-use Rattle.boxes.specs.Types.{jpeg, iden, grid, iovl}
-use Rattle.forms.specs.Form.{Form, whole}
-use Rattle.contents.specs.Iinf.{Item}
-use Rattle.pictures.specs.declared.Size.{Size}
-use Rattle.pictures.specs.declared.Point.{Point}
-use Rattle.pictures.specs.Turn.{size, point}
-use Rattle.pictures.specs.Signed.{plus, minus}
-use Rattle.pictures.specs.Decode.{turnsOf}
-use Rattle.pictures.specs.Recipe.{Recipe, Coded, Copy, Opaque, Tiles, Layers, Grid, Overlay, grid-form}
-use Rattle.pictures.specs.Scene.{Picture, Scene, pictureAt, outputOf}
-use Rattle.pictures.specs.Trace.{End, pixel, fill, Traced, trace}
-use Rattle.rules.specs.Rules.{inOrder, rule18, rule19, byDepth}
+use Rattle.boxes.specs.Answer.{Answer, ok, refuse, _>>=_}
+use Rattle.boxes.specs.Types.{iden, grid, iovl}
+use Rattle.forms.specs.Form.{whole}
+use Rattle.pictures.specs.Turn.{point}
+use Rattle.pictures.specs.Recipe.{Grid, grid-form}
+use Rattle.questions.specs.Questions as Questions
+use Rattle.sheet.specs.Writing.{bytes, ispeBox, irotBox, imirBox, clapBox, Entry, jpegItem, derivedItem, written}
 
--- a picture whose ID is its row, with the property boxes that turn it
-abbrev pub drawn : ℕ → Recipe → List ℕ → Size → List (List ℕ) → Picture
-drawn id r is s boxes = record { id = id; recipe = r; inputs = is; declared = s; turns = turnsOf s boxes }
+-- 1, 2, .. n
+abbrev pub oneTo : ℕ → List ℕ
+oneTo zero = []
+oneTo (suc n) = oneTo n ++ (suc n ∷ [])
 
--- 0, 1, .. n - 1
-abbrev pub upTo : ℕ → List ℕ
-upTo zero = []
-upTo (suc n) = upTo n ++ (n ∷ [])
+-- a's body, and c's, of 7 columns
+abbrev pub eightColumns : List ℕ
+eightColumns = 0x00 ∷ 0x00 ∷ 0x05 ∷ 0x07 ∷ 0x0f ∷ 0xc0 ∷ 0x0b ∷ 0xd0 ∷ []
 
--- the boxes of the lines d to j
-abbrev pub irotBox : ℕ → List ℕ
-irotBox a = 0 ∷ 0 ∷ 0 ∷ 9 ∷ 0x69 ∷ 0x72 ∷ 0x6f ∷ 0x74 ∷ a ∷ []
+abbrev pub sevenColumns : List ℕ
+sevenColumns = 0x00 ∷ 0x00 ∷ 0x05 ∷ 0x06 ∷ 0x0f ∷ 0xc0 ∷ 0x0b ∷ 0xd0 ∷ []
 
-abbrev pub imirBox : ℕ → List ℕ
-imirBox a = 0 ∷ 0 ∷ 0 ∷ 9 ∷ 0x69 ∷ 0x6d ∷ 0x69 ∷ 0x72 ∷ a ∷ []
+-- b, c: the items 1 to n are tiles of 512 × 512, item n + 1 is the grid of them with this body
+abbrev pub tiled : ℕ → List ℕ → List ℕ
+tiled n body =
+    written (ispeBox 512 512 ∷ ispeBox 4032 3024 ∷ [])
+    (replicate n (jpegItem (1 ∷ [])) ++ (derivedItem grid (oneTo n) body (2 ∷ []) ∷ []))
 
--- 601/1 wide, 480/1 high, offsets o and 0/1; o is eight bytes
-abbrev pub clapBox : List ℕ → List ℕ
-clapBox o =
-    (0 ∷ 0 ∷ 0 ∷ 40 ∷ 0x63 ∷ 0x6c ∷ 0x61 ∷ 0x70 ∷ 0 ∷ 0 ∷ 2 ∷ 0x59 ∷ 0 ∷ 0 ∷ 0 ∷ 1 ∷ 0 ∷ 0 ∷ 1 ∷ 0xe0 ∷ 0 ∷ 0 ∷ 0 ∷ 1 ∷ [])
-    ++ (o ++ (0 ∷ 0 ∷ 0 ∷ 0 ∷ 0 ∷ 0 ∷ 0 ∷ 1 ∷ []))
+-- d to j: item 1 is a picture of 640 × 480 with these transforms
+abbrev pub turned : List (List ℕ) → List ℕ
+turned boxes = written (ispeBox 640 480 ∷ boxes) (jpegItem (oneTo (suc (length boxes))) ∷ [])
 
--- the scenes: a grid in row n over n tiles of 512 × 512; one coded picture of 640 × 480; an overlay over A and B; n `iden` in a row
-abbrev pub tiled : ℕ → ℕ → Scene
-tiled n columns =
-    map (λ i. drawn i Coded [] (size 512 512) []) (upTo n)
-    ++ (drawn n (Tiles (record { rows = 6; columns = columns; wide = 4032; high = 3024 })) (upTo n) (size 4032 3024) [] ∷ [])
+-- h to j: 601/1 wide, 480/1 high, the horizontal offset as it is given, the vertical one 0/1
+abbrev pub cropped : List ℕ → List ℕ
+cropped offset = turned (clapBox (bytes 4 601 ++ bytes 4 1) (bytes 4 480 ++ bytes 4 1) offset (bytes 4 0 ++ bytes 4 1) ∷ [])
 
-abbrev pub turned : List (List ℕ) → Scene
-turned boxes = drawn 0 Coded [] (size 640 480) boxes ∷ []
-
-abbrev pub layered : Scene
-layered =
-    drawn 0 Coded [] (size 4 4) []
-    ∷ drawn 1 Coded [] (size 4 4) []
-    ∷ drawn 2 (Layers (record {
-      wide = 10;
-      high = 10;
-      offsets = record { right = minus 2; down = plus 0 } ∷
-          record { right = plus 1; down = plus 1 } ∷ [];
-    })) (0 ∷ 1 ∷ []) (size 10 10) []
+-- k: the items 1 and 2 are A and B, item 3 is the overlay of them. Its body: version and flags; four fill values; width and height; the
+-- offsets, (-2,0) and (1,1)
+abbrev pub overlay : List ℕ
+overlay =
+    0x00 ∷ 0x00
+    ∷ 0x00 ∷ 0x00 ∷ 0x00 ∷ 0x00 ∷ 0x00 ∷ 0x00 ∷ 0x00 ∷ 0x00
+    ∷ 0x00 ∷ 0x0a ∷ 0x00 ∷ 0x0a
+    ∷ 0xff ∷ 0xfe ∷ 0x00 ∷ 0x00
+    ∷ 0x00 ∷ 0x01 ∷ 0x00 ∷ 0x01
     ∷ []
 
-abbrev pub copies : ℕ → Scene
-copies zero = drawn 0 Coded [] (size 8 8) [] ∷ []
-copies (suc n) = copies n ++ (drawn (suc n) Copy (n ∷ []) (size 8 8) [] ∷ [])
+abbrev pub layered : List ℕ
+layered =
+    written (ispeBox 4 4 ∷ ispeBox 10 10 ∷ [])
+    (jpegItem (1 ∷ []) ∷ jpegItem (1 ∷ []) ∷ derivedItem iovl (1 ∷ 2 ∷ []) overlay (2 ∷ []) ∷ [])
 
-abbrev pub typeOf : Recipe → ℕ
-typeOf Coded = jpeg
-typeOf Copy = iden
-typeOf (Tiles g) = grid
-typeOf (Layers o) = iovl
-typeOf Opaque = 0
+-- l: item 1 is a picture of 8 × 8, and behind it come n `iden` in a row, each of the item before it
+abbrev pub copies : ℕ → ℕ → List Entry
+copies id zero = []
+copies id (suc n) = derivedItem iden (id ∷ []) [] (1 ∷ []) ∷ copies (suc id) n
 
-abbrev pub itemsOf : Scene → List Item
-itemsOf s = map (λ (p : Picture). record { id = p .id; type = typeOf (p .recipe); protection = 0; hidden = 0 }) s
+abbrev pub inARow : ℕ → List ℕ
+inARow n = written (ispeBox 8 8 ∷ []) (jpegItem (1 ∷ []) ∷ copies 1 n)
 
--- body: a grid's rows, columns, width, height. outside: the output size of a row. from: kind (1 pixel, 2 fill), row, x,
--- y and pictures passed. judge: refusals 18 to 20
+-- body: what a `grid`'s body says. The others go to a whole file: its verdict, the size of an item, the trace of an item's pixel (x, y).
 pub data Question : Type 0 where
   body : List ℕ → Question
-  outside : Scene → ℕ → Question
-  from : Scene → ℕ → ℕ → ℕ → Question
-  judge : Scene → Question
+  verdict : List ℕ → Question
+  size : List ℕ → ℕ → Question
+  trace : List ℕ → ℕ → ℕ → ℕ → Question
 
-abbrev pub endOf : ℕ → End → List ℕ
-endOf n (pixel i p) = 1 ∷ i ∷ p .x ∷ p .y ∷ n ∷ []
-endOf n (fill i p) = 2 ∷ i ∷ p .x ∷ p .y ∷ n ∷ []
-
+-- the answers as numbers. body: rows, columns, width, height. verdict: items, primary ID. size: reconstructed width and height, output
+-- width and height, depth. trace: 1 for a pixel or 2 for fill, ID of the item where it ends, x, y there, items passed.
 unfoldable pub ask : Question → Answer (List ℕ)
 ask (body b) = whole grid-form 0 b >>= (λ (g : Grid). ok (g .rows ∷ g .columns ∷ g .wide ∷ g .high ∷ []))
-ask (outside s i) = ok (outputOf (pictureAt s i) .wide ∷ outputOf (pictureAt s i) .high ∷ [])
-ask (from s i x y) = ok (endOf (trace s i (point x y) .passed) (trace s i (point x y) .end))
-ask (judge s) = inOrder (rule18 s) 0 (itemsOf s) >> inOrder (rule19 s) 0 (itemsOf s) >> byDepth s (itemsOf s) 17 0 >> ok []
+ask (verdict file) = Questions.verdict 11280 (length file) file >>= (λ (v : Questions.Verdict). ok (v .items ∷ v .primary ∷ []))
+ask (size file id) =
+    Questions.size 11280 (length file) file id
+    >>= (λ (s : Questions.Sized). ok (s .reconstructed .wide ∷ s .reconstructed .high ∷ s .output .wide ∷ s .output .high ∷ s .depth ∷ []))
+ask (trace file id x y) =
+    Questions.trace 11280 (length file) file id (point x y)
+    >>= (λ (f : Questions.Found). ok (pick (f .isFill) 2 1 ∷ f .item ∷ f .at .x ∷ f .at .y ∷ f .passed ∷ []))
 
 pub record Line : Type 0 where
   pub question : Question
@@ -105,32 +94,32 @@ q says a = record { question = q; answer = a }
 unfoldable pub sheet : List Line
 sheet =
     -- a: grid body `00 00 05 07 0F C0 0B D0`: 6 rows, 8 columns, 4032 × 3024
-    (body (0 ∷ 0 ∷ 5 ∷ 7 ∷ 0x0f ∷ 0xc0 ∷ 0x0b ∷ 0xd0 ∷ []) says ok (6 ∷ 8 ∷ 4032 ∷ 3024 ∷ []))
-    -- b: its 512 × 512 tiles, pixel (4031, 3023): tile 47 from 0, (447, 463)
-    ∷ (judge (tiled 48 8) says ok [])
-    ∷ (from (tiled 48 8) 48 4031 3023 says ok (1 ∷ 47 ∷ 447 ∷ 463 ∷ 2 ∷ []))
+    (body eightColumns says ok (6 ∷ 8 ∷ 4032 ∷ 3024 ∷ []))
+    -- b: its 512 × 512 tiles, pixel (4031, 3023): tile 47 from 0, (447, 463). Item 48 is tile 47 from 0.
+    ∷ (verdict (tiled 48 eightColumns) says ok (49 ∷ 49 ∷ []))
+    ∷ (trace (tiled 48 eightColumns) 49 4031 3023 says ok (1 ∷ 48 ∷ 447 ∷ 463 ∷ 2 ∷ []))
     -- c: 7 columns, 42 tiles: 20
-    ∷ (judge (tiled 42 7) says refuse 20 42)
+    ∷ (verdict (tiled 42 sevenColumns) says refuse 20 43)
     -- d: 640 × 480, `irot` 1: 480 × 640, (0,0) from (639,0)
-    ∷ (outside (turned (irotBox 1 ∷ [])) 0 says ok (480 ∷ 640 ∷ []))
-    ∷ (from (turned (irotBox 1 ∷ [])) 0 0 0 says ok (1 ∷ 0 ∷ 639 ∷ 0 ∷ 1 ∷ []))
+    ∷ (size (turned (irotBox 1 ∷ [])) 1 says ok (640 ∷ 480 ∷ 480 ∷ 640 ∷ 0 ∷ []))
+    ∷ (trace (turned (irotBox 1 ∷ [])) 1 0 0 says ok (1 ∷ 1 ∷ 639 ∷ 0 ∷ 1 ∷ []))
     -- e: `irot` 3: from (0,479)
-    ∷ (from (turned (irotBox 3 ∷ [])) 0 0 0 says ok (1 ∷ 0 ∷ 0 ∷ 479 ∷ 1 ∷ []))
+    ∷ (trace (turned (irotBox 3 ∷ [])) 1 0 0 says ok (1 ∷ 1 ∷ 0 ∷ 479 ∷ 1 ∷ []))
     -- f, by Q-1: "(0,0) from (0,0) for `irot` 1 then `imir` 0"
-    ∷ (from (turned (irotBox 1 ∷ imirBox 0 ∷ [])) 0 0 0 says ok (1 ∷ 0 ∷ 0 ∷ 0 ∷ 1 ∷ []))
+    ∷ (trace (turned (irotBox 1 ∷ imirBox 0 ∷ [])) 1 0 0 says ok (1 ∷ 1 ∷ 0 ∷ 0 ∷ 1 ∷ []))
     -- g, by Q-1: "from (639,479) for the other order"
-    ∷ (from (turned (imirBox 0 ∷ irotBox 1 ∷ [])) 0 0 0 says ok (1 ∷ 0 ∷ 639 ∷ 479 ∷ 1 ∷ []))
+    ∷ (trace (turned (imirBox 0 ∷ irotBox 1 ∷ [])) 1 0 0 says ok (1 ∷ 1 ∷ 639 ∷ 479 ∷ 1 ∷ []))
     -- h: `clap` 601/1 wide in 640, offset 1/2: left 20
-    ∷ (from (turned (clapBox (0 ∷ 0 ∷ 0 ∷ 1 ∷ 0 ∷ 0 ∷ 0 ∷ 2 ∷ []) ∷ [])) 0 0 0 says ok (1 ∷ 0 ∷ 20 ∷ 0 ∷ 1 ∷ []))
+    ∷ (trace (cropped (bytes 4 1 ++ bytes 4 2)) 1 0 0 says ok (1 ∷ 1 ∷ 20 ∷ 0 ∷ 1 ∷ []))
     -- i: -1/2: 19
-    ∷ (from (turned (clapBox (255 ∷ 255 ∷ 255 ∷ 255 ∷ 0 ∷ 0 ∷ 0 ∷ 2 ∷ []) ∷ [])) 0 0 0 says ok (1 ∷ 0 ∷ 19 ∷ 0 ∷ 1 ∷ []))
+    ∷ (trace (cropped (bytes 4 0xffffffff ++ bytes 4 2)) 1 0 0 says ok (1 ∷ 1 ∷ 19 ∷ 0 ∷ 1 ∷ []))
     -- j: 0/1: 20 as refusal
-    ∷ (judge (turned (clapBox (0 ∷ 0 ∷ 0 ∷ 0 ∷ 0 ∷ 0 ∷ 0 ∷ 1 ∷ []) ∷ [])) says refuse 20 0)
+    ∷ (verdict (cropped (bytes 4 0 ++ bytes 4 1)) says refuse 20 1)
     -- k: overlay 10 × 10, A 4 × 4 at (-2,0), B 4 × 4 at (1,1): (1,1) is B (0,0); (0,0) is A (2,0); (9,9) fill
-    ∷ (from layered 2 1 1 says ok (1 ∷ 1 ∷ 0 ∷ 0 ∷ 2 ∷ []))
-    ∷ (from layered 2 0 0 says ok (1 ∷ 0 ∷ 2 ∷ 0 ∷ 2 ∷ []))
-    ∷ (from layered 2 9 9 says ok (2 ∷ 2 ∷ 9 ∷ 9 ∷ 1 ∷ []))
+    ∷ (trace layered 3 1 1 says ok (1 ∷ 2 ∷ 0 ∷ 0 ∷ 2 ∷ []))
+    ∷ (trace layered 3 0 0 says ok (1 ∷ 1 ∷ 2 ∷ 0 ∷ 2 ∷ []))
+    ∷ (trace layered 3 9 9 says ok (2 ∷ 3 ∷ 9 ∷ 9 ∷ 1 ∷ []))
     -- l: sixteen `iden` in a row accepted; seventeen: 19
-    ∷ (judge (copies 16) says ok [])
-    ∷ (judge (copies 17) says refuse 19 17)
+    ∷ (verdict (inARow 16) says ok (17 ∷ 17 ∷ []))
+    ∷ (verdict (inARow 17) says refuse 19 18)
     ∷ []

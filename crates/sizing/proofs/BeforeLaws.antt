@@ -14,14 +14,14 @@ use Rattle.rules.specs.Joined.{associationsOf, itemAt}
 use Rattle.rules.specs.Places.{Places}
 use Rattle.rules.specs.Rules.{rule15-16}
 use Rattle.records.proofs.SetsLaws.{sets-in}
-use Rattle.views.specs.View.{TableOf, recordWord, idOf}
-use Rattle.views.specs.Told.{faultOf}
+use Rattle.views.specs.inner.View.{TableOf, recordWord, idOf}
+use Rattle.views.specs.inner.Told.{faultOf}
 use Rattle.views.proofs.TableLaws.{row-small}
-use Rattle.declared.specs.Told.{toldSizes}
+use Rattle.declared.specs.inner.Told.{toldSizes}
 use Rattle.declared.specs.declared.SizesRead.{SizesRead}
 use Rattle.declared.specs.declared.SizesRead.the-variants.{Are}
 use Rattle.declared.proofs.AlikeLaws.{alike-told}
-use Rattle.sizing.specs.Drawn.{sizesFor, sizesIn, ToldBefore}
+use Rattle.sizing.specs.inner.Drawn.{sizesFor, sizesIn, ToldBefore}
 use Rattle.sizing.proofs.FillLaws.{sizes-five}
 use Rattle.sizing.proofs.FaultLaws.{free-known}
 

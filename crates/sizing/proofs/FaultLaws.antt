@@ -16,8 +16,8 @@ use Rattle.contents.specs.File.{File}
 use Rattle.rules.specs.Joined.{associationsOf, typesOf, itemAt}
 use Rattle.rules.specs.Places.{Places}
 use Rattle.rules.specs.Rules.{essentialKnown, goodIspe, rule15-16}
-use Rattle.views.specs.View.{TableOf, recordWord, idOf}
-use Rattle.views.specs.Told.{faultOf}
+use Rattle.views.specs.inner.View.{TableOf, recordWord, idOf}
+use Rattle.views.specs.inner.Told.{faultOf}
 use Rattle.views.proofs.TableLaws.{row-small, test-read}
 
 -- 15 before 16 by what the four tests say

@@ -23,12 +23,12 @@ use Rattle.rules.specs.Places.{Places, placesIn}
 use Rattle.rules.specs.Derivations.{declaredIn, sceneOf}
 use Rattle.rules.specs.Words.{headWords, sizeWords, wordsOf}
 use Rattle.rules.proofs.SceneLaws.{declared-at, turns-at}
-use Rattle.records.specs.Raw.{rawOf}
+use Rattle.records.specs.inner.Raw.{rawOf}
 use Rattle.records.proofs.KeptLaws.{drop-sets}
-use Rattle.views.specs.View.{TableOf, Judging, AllPlaced, idOf}
+use Rattle.views.specs.inner.View.{TableOf, Judging, AllPlaced, idOf}
 use Rattle.views.proofs.FillLaws.{filledTo, filled-none, filled-next, filled-all, filled-view}
 use Rattle.views.proofs.ViewLaws.{read-view, raw-judging}
-use Rattle.sizing.specs.Drawn.{sizesFor, sizesIn, ToldBefore}
+use Rattle.sizing.specs.inner.Drawn.{sizesFor, sizesIn, ToldBefore}
 
 -- sizesFor: five stores side by side
 pub sizes-stored : (t : List ℕ) (a r : ℕ) (s o : Size) (d : ℕ) → a ≡ 16 + 16 * r

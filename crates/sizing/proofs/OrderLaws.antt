@@ -14,7 +14,7 @@ use Rattle.contents.specs.Iinf.{Item}
 use Rattle.contents.specs.File.{File}
 use Rattle.rules.specs.Joined.{noItem, itemAt}
 use Rattle.rules.specs.Rules.{inOrder, rule15-16}
-use Rattle.views.specs.Told.{faultOf}
+use Rattle.views.specs.inner.Told.{faultOf}
 
 abbrev pub Blames : ℕ → Answer (Unit {0}) → Type 0
 Blames id (ok u) = Unit {0}

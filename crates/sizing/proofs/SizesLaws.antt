@@ -15,21 +15,21 @@ use Rattle.pictures.specs.declared.Size.{Size}
 use Rattle.pictures.specs.Turn.{size}
 use Rattle.pictures.specs.Recipe.{Recipe, Coded, Copy, Opaque, Tiles, Layers, Grid}
 use Rattle.pictures.specs.Scene.{Picture, Scene, pictureAt, outputOf, sameSize, goodSize, firstInput, allSize, madeUp, goodSizes}
-use Rattle.pictures.specs.GoodScene.{Shaped}
+use Rattle.pictures.specs.inner.GoodScene.{Shaped}
 use Rattle.rules.specs.Joined.{targetsOf, rowOf, itemAt}
 use Rattle.rules.specs.Derivations.{sceneOf}
 use Rattle.rules.proofs.SceneLaws.{inputs-at, recipe-ok, inputs-fed}
 use Rattle.rules.specs.Places.{Places}
-use Rattle.views.specs.View.{TableOf, SizesAre, recordWord, idOf}
+use Rattle.views.specs.inner.View.{TableOf, SizesAre, recordWord, idOf}
 use Rattle.views.proofs.LookupLaws.{row-listed}
-use Rattle.derived.specs.Told.{derivationFor, toldDerivation}
+use Rattle.derived.specs.inner.Told.{derivationFor, toldDerivation}
 use Rattle.derived.specs.declared.Derivation.{Derivation}
 use Rattle.derived.specs.declared.Derivation.the-variants as made
 use Rattle.derived.proofs.RecipeLaws.{plain-recipe, derived-recipe}
 use Rattle.fields.specs.Choice.{pick}
 use Rattle.fields.proofs.FieldLaws.{both}
 use Rattle.fields.proofs.ListLaws.{left-from, map-at}
-use Rattle.sizing.specs.Drawn.{Drawn, tilesFit}
+use Rattle.sizing.specs.inner.Drawn.{Drawn, tilesFit}
 
 -- SizesAre: the two sizes in a row
 module _ {t : List ℕ} {s : Scene} (w : SizesAre t s) (r : ℕ) (h : r < length s) (a b : ℕ) where

@@ -23,11 +23,11 @@ use Rattle.rules.specs.Joined.{itemAt}
 use Rattle.rules.specs.Places.{Places}
 use Rattle.rules.specs.Rules.{inOrder, rule15-16}
 use Rattle.records.proofs.SetsLaws.{sets-below, sets-above}
-use Rattle.views.specs.View.{TableOf, Judging, recordWord, wide, idOf}
-use Rattle.views.specs.Told.{faultOf}
+use Rattle.views.specs.inner.View.{TableOf, Judging, recordWord, wide, idOf}
+use Rattle.views.specs.inner.Told.{faultOf}
 use Rattle.views.proofs.TableLaws.{row-small}
-use Rattle.sizing.specs.Drawn.{sizesIn, ToldBefore}
-use Rattle.sizing.specs.Told.{toldFilled}
+use Rattle.sizing.specs.inner.Drawn.{sizesIn, ToldBefore}
+use Rattle.sizing.specs.inner.Told.{toldFilled}
 use Rattle.sizing.specs.declared.Filled.{Filled}
 use Rattle.sizing.specs.declared.Filled.the-variants.{All, Refused}
 use Rattle.sizing.proofs.FillLaws.{sizes-five}

@@ -22,12 +22,12 @@ use Rattle.rules.specs.Opening.{pictured}
 use Rattle.questions.specs.Questions.{sourcesIn, listAfter}
 use Rattle.rules.proofs.DerivationLaws.{shaped-drawn}
 use Rattle.rules.proofs.SceneLaws.{inputs-fed}
-use Rattle.depths.specs.Inputs.{InputsAre}
-use Rattle.derived.specs.Told.{Resolved}
-use Rattle.needed.specs.Marked.{markedOf}
+use Rattle.depths.specs.inner.Inputs.{InputsAre}
+use Rattle.derived.specs.inner.Told.{Resolved}
+use Rattle.needed.specs.inner.Marked.{markedOf}
 use Rattle.needed.proofs.SourcesLaws.{marked-sources}
 use Rattle.judging.proofs.SceneLaws.{scene-long, inputs-are}
-use Rattle.tracing.specs.Told.{Shown}
+use Rattle.tracing.specs.inner.Told.{Shown}
 use Rattle.asked.specs.Told.{toldPictured}
 use Rattle.asked.specs.declared.Pictured.the-variants as pictures
 use Rattle.asked.proofs.PicturedLaws.{picture-listed, pictured-refused, pictured-row, picture-image}

@@ -24,8 +24,8 @@ use Rattle.rules.specs.Opening.{opened, listed}
 use Rattle.questions.specs.Questions.{Part, partOf, propertyIn, property}
 use Rattle.records.specs.declared.FoundRow.{FoundRow}
 use Rattle.records.specs.declared.FoundRow.the-variants.{At, Nothing}
-use Rattle.views.specs.View.{TableOf, idOf}
-use Rattle.views.specs.Told.{toldRow}
+use Rattle.views.specs.inner.View.{TableOf, idOf}
+use Rattle.views.specs.inner.Told.{toldRow}
 use Rattle.views.proofs.LookupLaws.{found}
 use Rattle.views.specs.Lies.{LiesAt}
 use Rattle.views.proofs.TableLaws.{property-none}

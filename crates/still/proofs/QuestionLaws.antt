@@ -11,7 +11,7 @@ use Rattle.rules.specs.Opening.{opened, after}
 use Rattle.questions.specs.Questions.{verdictIn, verdict, sizeIn, size}
 use Rattle.rules.proofs.RuleLaws.{judged-each, accepted-both}
 use Rattle.rules.proofs.SceneLaws.{accepted-scene}
-use Rattle.tracing.specs.Told.{Shown}
+use Rattle.tracing.specs.inner.Told.{Shown}
 use Rattle.opening.specs.Told.{toldOpened}
 use Rattle.opening.specs.declared.Opened.the-variants as opens
 use Rattle.opening.proofs.FileLaws.{opened-refused, file-accepted, file-view, file-sizes}

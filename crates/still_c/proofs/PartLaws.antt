@@ -18,7 +18,7 @@ use Rattle.rules.specs.Places.{Places, placesIn, propertyOffset}
 use Rattle.rules.specs.Words.{wordsOf}
 use Rattle.rules.specs.Opening.{opened, after}
 use Rattle.questions.specs.Questions.{Part, partOf, propertyIn, property}
-use Rattle.views.specs.View.{TableOf}
+use Rattle.views.specs.inner.View.{TableOf}
 use Rattle.rules.proofs.RuleLaws.{accepted-both}
 use Rattle.views.proofs.LieLaws.{PartIn}
 use Rattle.views.proofs.PartLaws.{property-parts}

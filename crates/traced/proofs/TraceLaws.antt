@@ -26,7 +26,7 @@ use Rattle.questions.specs.Questions.{foundBy, traceIn}
 use Rattle.rules.proofs.DerivationLaws.{shaped-drawn}
 use Rattle.rules.proofs.SceneLaws.{inputs-fed}
 use Rattle.judging.proofs.SceneLaws.{scene-long}
-use Rattle.tracing.specs.Told.{Shown, toldEnd, toldEndBy}
+use Rattle.tracing.specs.inner.Told.{Shown, toldEnd, toldEndBy}
 use Rattle.tracing.specs.declared.End.{End}
 use Rattle.tracing.specs.declared.End.the-variants as end
 use Rattle.asked.specs.Told.{toldPictured}

@@ -10,8 +10,8 @@ use Rattle.rules.specs.Joined.{targetsOf, rowOf}
 use Rattle.rules.specs.Places.{Places}
 use Rattle.records.specs.declared.FoundRow.{FoundRow}
 use Rattle.records.specs.declared.FoundRow.the-variants.{At, Nothing}
-use Rattle.views.specs.View.{TableOf}
-use Rattle.views.specs.Told.{toldRow}
+use Rattle.views.specs.inner.View.{TableOf}
+use Rattle.views.specs.inner.Told.{toldRow}
 use Rattle.views.proofs.LookupLaws.{row-listed, told-at, told-nothing}
 
 -- toldRow of the target with number j of an item

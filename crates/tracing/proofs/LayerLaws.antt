@@ -14,7 +14,8 @@ use Rattle.fields.proofs.FieldLaws.{pick-yes, pick-no, both, Bytes, be-below}
 use Rattle.fields.proofs.TestLaws.{both-and, and-none}
 use Rattle.boxes.specs.Answer.{ok}
 use Rattle.boxes.specs.Types.{iden, grid, iovl, derived, image}
-use Rattle.forms.specs.Form.{whole, whole-sound}
+use Rattle.forms.specs.Form.{whole}
+use Rattle.forms.proofs.WholeLaws.{whole-sound}
 use Rattle.contents.specs.Iinf.{Item}
 use Rattle.contents.specs.File.{File}
 use Rattle.table.specs.declared.ItemRow.{ItemRow}
@@ -29,19 +30,19 @@ use Rattle.pictures.specs.Recipe.{Recipe, Layers, Offset, Overlay, fieldBytes, 
 use Rattle.pictures.specs.Scene.{Picture, Scene, pictureAt, outputOf}
 use Rattle.pictures.specs.Trace.{blank, input, onSide, alongSide, covers, layerAt, sourceBy, sourceOf}
 use Rattle.pictures.specs.Trace as Trace
-use Rattle.pictures.specs.Told.{toldSide, toldOverlay}
+use Rattle.pictures.specs.inner.Told.{toldSide, toldOverlay}
 use Rattle.pictures.proofs.RefusedLaws.{refused-ok}
 use Rattle.pictures.proofs.RecipeLaws.{iovl-offsets}
 use Rattle.pictures.proofs.OverlayLaws.{offsetAt, overlay-bytes, overlay-offset, told-overlay, told-no-overlay}
 use Rattle.rules.specs.Joined.{targetsOf, rowOf, itemAt}
-use Rattle.rules.specs.Derivations.{layersOf, bodyOf, sceneOf}
+use Rattle.rules.specs.Derivations.{layersOf, itsBody, sceneOf}
 use Rattle.rules.proofs.SceneLaws.{recipe-ok}
-use Rattle.views.specs.View.{SizesAre, idOf}
-use Rattle.derived.specs.Told.{bodyOr}
+use Rattle.views.specs.inner.View.{SizesAre, idOf}
+use Rattle.derived.specs.inner.Told.{bodyOr}
 use Rattle.sizing.proofs.SizesLaws.{scene-inputs, scene-input, scene-input-size}
 use Rattle.rules.proofs.DerivationLaws.{body-read}
 use Rattle.pictures.proofs.GridLaws.{two-or-four}
-use Rattle.tracing.specs.Told.{Shown, toldSource, toldCovered}
+use Rattle.tracing.specs.inner.Told.{Shown, toldSource, toldCovered}
 use Rattle.tracing.specs.declared.Source.{Source}
 use Rattle.tracing.specs.declared.Source.the-variants as source
 use Rattle.tracing.specs.declared.Covered.{Covered}
@@ -198,17 +199,17 @@ overlay-read b n w h k e =
 -- layersOf
 module _ (total : ℕ) (head : List ℕ) (f : File) (item : Item) (r : Recipe) where
   layers-read : layersOf total head f item ≡ ok r → (o : Overlay) ×
-      (whole (iovl-form (length (targetsOf f (item .id)))) 0 (bodyOr (bodyOf total head f item)) ≡ ok o) ×
+      (whole (iovl-form (length (targetsOf f (item .id)))) 0 (bodyOr (itsBody total head f item)) ≡ ok o) ×
       (r ≡ Layers o)
   unfolding layersOf bodyOr
   layers-read m =
       let x = body-read _ _ 17 _ _ Layers r m in
-      let e : bodyOr (bodyOf total head f item) ≡ x .0 = ap bodyOr (x .1) in
+      let e : bodyOr (itsBody total head f item) ≡ x .0 = ap bodyOr (x .1) in
       (x .2, rw e (x .3), sym (x .5))
 
 -- Shown: an `iovl` item whose body is b, of n inputs
 module _ {t head : List ℕ} {total : ℕ} {f : File} (v : Shown t head total f) (r : ℕ) (h : r < length (f .items))
-    (e : itemAt f r .type ≡ iovl) (b : List ℕ) (body : b ≡ bodyOr (bodyOf total head f (itemAt f r))) (n : ℕ)
+    (e : itemAt f r .type ≡ iovl) (b : List ℕ) (body : b ≡ bodyOr (itsBody total head f (itemAt f r))) (n : ℕ)
     (c : n ≡ length (targetsOf f (idOf f r))) where
   layers-kept : (o : Overlay) × (whole (iovl-form n) 0 b ≡ ok o) × (pictureAt (sceneOf total head f) r .recipe ≡ Layers o)
   layers-kept =

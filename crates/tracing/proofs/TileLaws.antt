@@ -24,22 +24,22 @@ use Rattle.pictures.specs.declared.Point.{Point}
 use Rattle.pictures.specs.declared.GridRead.{GridRead}
 use Rattle.pictures.specs.declared.GridRead.the-variants.{Is, Wrong}
 use Rattle.pictures.specs.Turn.{size, point, Inside}
-use Rattle.pictures.specs.Told.{toldGrid}
+use Rattle.pictures.specs.inner.Told.{toldGrid}
 use Rattle.pictures.specs.Recipe.{Recipe, Copy, Opaque, Tiles, Grid, grid-form}
 use Rattle.pictures.specs.Scene.{Picture, Scene, pictureAt, outputOf, firstInput, allSize, covered, madeUp}
 use Rattle.pictures.specs.Trace.{tileAt, sourceBy, sourceOf}
-use Rattle.pictures.specs.GoodScene.{Shaped, GoodPicture}
+use Rattle.pictures.specs.inner.GoodScene.{Shaped, GoodPicture}
 use Rattle.pictures.proofs.GridLaws.{told-grid}
 use Rattle.pictures.proofs.SceneLaws.{same-size, is-made-up}
 use Rattle.pictures.proofs.SourceLaws.{tile-in}
 use Rattle.rules.specs.Joined.{targetsOf, rowOf, itemAt}
-use Rattle.rules.specs.Derivations.{bodyOf, copyOf, tilesOf, layersOf, recipeFor, recipeOf, sceneOf}
+use Rattle.rules.specs.Derivations.{itsBody, copyOf, tilesOf, layersOf, recipeFor, recipeOf, sceneOf}
 use Rattle.rules.proofs.DerivationLaws.{rule-17-ok, body-read}
 use Rattle.rules.proofs.SceneLaws.{opaque-at, recipe-ok, inputs-fed}
-use Rattle.views.specs.View.{SizesAre, idOf}
-use Rattle.derived.specs.Told.{bodyOr}
+use Rattle.views.specs.inner.View.{SizesAre, idOf}
+use Rattle.derived.specs.inner.Told.{bodyOr}
 use Rattle.sizing.proofs.SizesLaws.{scene-many, scene-input, scene-input-size}
-use Rattle.tracing.specs.Told.{Shown, toldSource}
+use Rattle.tracing.specs.inner.Told.{Shown, toldSource}
 use Rattle.tracing.specs.declared.Source.the-variants as source
 
 -- the number of a tile fits in 64 bits
@@ -62,7 +62,7 @@ module _ (total : ℕ) (head : List ℕ) (f : File) (item : Item) (r : Recipe) (
   unfolding copyOf
   copy-by q = sym (ok-inj Copy r (then-ok _ _ r (sym (pick-yes _ _ (eq-eqb (item .type) iden q)) ∙ derived-by (ap (λ (k : ℕ). derived k) q)) .2))
 
-  tiles-by : item .type ≡ grid → (b : List ℕ) × (bodyOf total head f item ≡ ok b) × (g : Grid) × (whole grid-form 0 b ≡ ok g) × (r ≡ Tiles g)
+  tiles-by : item .type ≡ grid → (b : List ℕ) × (itsBody total head f item ≡ ok b) × (g : Grid) × (whole grid-form 0 b ≡ ok g) × (r ≡ Tiles g)
   unfolding tilesOf
   tiles-by q =
       let x = body-read _ _ 17 _ _ Tiles r (sym (pick-no _ _ (ap (λ (k : ℕ). eqb k iden) q) ∙
@@ -103,7 +103,7 @@ module _ {t head : List ℕ} {total : ℕ} {f : File} (d : Shown t head total f)
         ∙ sym (ap (λ (x : Recipe). toldSource (sourceBy s picture x p)) copied)
 
   -- `grid`: b is the body, read as x
-  module _ (q : itemAt f r .type ≡ grid) (b : List ℕ) (eb : b ≡ bodyOr (bodyOf total head f (itemAt f r)))
+  module _ (q : itemAt f r .type ≡ grid) (b : List ℕ) (eb : b ≡ bodyOr (itsBody total head f (itemAt f r)))
       (x : GridRead) (ex : x ≡ toldGrid (whole grid-form 0 b)) where
     grid-told : (g : Grid) × (x ≡ toldGrid (ok g)) × (picture .recipe ≡ Tiles g)
     unfolding bodyOr

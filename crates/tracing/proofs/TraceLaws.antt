@@ -23,7 +23,7 @@ use Rattle.pictures.specs.Turn as Turns
 use Rattle.pictures.specs.Decode.{turnsOf}
 use Rattle.pictures.specs.Recipe.{Recipe, Coded, Opaque}
 use Rattle.pictures.specs.Scene.{Picture, Scene, pictureAt, outputOf}
-use Rattle.pictures.specs.GoodScene.{GoodPicture}
+use Rattle.pictures.specs.inner.GoodScene.{GoodPicture}
 use Rattle.pictures.specs.Trace.{here, blank, input, fill, Traced, sourceBy, sourceOf, follow, traced, undoTurns}
 use Rattle.pictures.specs.Trace as Trace
 use Rattle.pictures.proofs.TurnLaws.{inside-undone}
@@ -33,9 +33,9 @@ use Rattle.rules.specs.Joined.{boxesOf, itemAt}
 use Rattle.rules.specs.Derivations.{recipeFor, recipeOf, sceneOf}
 use Rattle.rules.proofs.DerivationLaws.{shaped-drawn, rule-17-ok}
 use Rattle.rules.proofs.SceneLaws.{opaque-at, turns-at, recipe-ok, inputs-fed}
-use Rattle.views.specs.View.{SizesAre, idOf}
+use Rattle.views.specs.inner.View.{SizesAre, idOf}
 use Rattle.sizing.proofs.SizesLaws.{scene-many}
-use Rattle.tracing.specs.Told.{Shown, toldSource, toldEndBy, toldEnd}
+use Rattle.tracing.specs.inner.Told.{Shown, toldSource, toldEndBy, toldEnd}
 use Rattle.tracing.specs.declared.Source.{Source}
 use Rattle.tracing.specs.declared.Source.the-variants as source
 use Rattle.tracing.specs.declared.End.{End}

@@ -13,11 +13,11 @@ use Rattle.pictures.specs.declared.Point.{Point}
 use Rattle.pictures.specs.declared.Turn.{Turn}
 use Rattle.pictures.specs.Turn.{sizeAfter, back, sizeThrough, undone, Inside, Fits, AllFit}
 use Rattle.pictures.specs.Decode.{transform, turnOf, turnsOf}
-use Rattle.pictures.specs.Told.{Sized, turnBy}
+use Rattle.pictures.specs.inner.Told.{LongAsAsked, turnBy}
 use Rattle.pictures.proofs.TurnLaws.{inside-undone}
 use Rattle.rules.specs.Joined.{associationsOf, boxesOf, typesOf}
 use Rattle.rules.specs.Places.{Places}
-use Rattle.views.specs.View.{TableOf}
+use Rattle.views.specs.inner.View.{TableOf}
 use Rattle.declared.proofs.SizeLaws.{boxes-left, kind-said, turn-read}
 
 -- turnsOf: the box b at the front
@@ -60,7 +60,7 @@ module _ {t head : List ℕ} {pl : Places} {f : File} (v : TableOf t head pl f) 
 
   -- b is the box, and c its content
   pub undone-read : (b c : List ℕ) → b ≡ getD (boxesOf f id) j [] → c ≡ bodyOf b → (u : Turn) → transform k ≡ true →
-      (Sized k c → u ≡ turnBy s k c) → (z : Size) → z ≡ sizeAfter u s
+      (LongAsAsked k c → u ≡ turnBy s k c) → (z : Size) → z ≡ sizeAfter u s
       → (o : Point) → LeadsBack (turnsOf z (drop (j + 1) (boxesOf f id))) z p o →
       (Fits u s → Inside (sizeAfter u s) o → r ≡ back u s o) → LeadsBack (turnsOf s (drop j (boxesOf f id))) s p r
   undone-read b c eb ec u q g z ez o h w =

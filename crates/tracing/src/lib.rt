@@ -20,8 +20,8 @@ ghost use Rattle.pictures.specs.Trace.{sourceOf, layerAt, blank, traced, undoTu
 ghost use Rattle.rules.specs.Joined.{targetsOf, boxesOf, rowOf, itemAt};
 ghost use Rattle.rules.specs.Places.{Places};
 ghost use Rattle.rules.specs.Derivations.{sceneOf};
-ghost use Rattle.views.specs.View.{TableOf, idOf};
-ghost use Rattle.tracing.specs.Told.{Shown, toldSource, toldCovered, toldEnd};
+ghost use Rattle.views.specs.inner.View.{TableOf, idOf};
+ghost use Rattle.tracing.specs.inner.Told.{Shown, toldSource, toldCovered, toldEnd};
 use pictures::GridRead;
 use pictures::OverlayRead;
 use pictures::Point;

@@ -16,16 +16,16 @@ use Rattle.pictures.specs.declared.Turn.{Turn}
 use Rattle.pictures.specs.declared.Turn.the-variants.{Stay, Left, Half, Right, FlipX, FlipY, Crop, Misfit}
 use Rattle.pictures.specs.Turn.{sizeAfter, Fits, AllFit}
 use Rattle.pictures.specs.Decode.{transform, turnOf, turnsOf}
-use Rattle.pictures.specs.Told.{Sized, turnBy}
+use Rattle.pictures.specs.inner.Told.{LongAsAsked, turnBy}
 use Rattle.rules.specs.Joined.{associationsOf, boxesOf, typesOf}
 use Rattle.rules.specs.Places.{Places}
-use Rattle.views.specs.View.{TableOf}
+use Rattle.views.specs.inner.View.{TableOf}
 use Rattle.fields.proofs.ListLaws.{left-from}
 use Rattle.declared.proofs.SizeLaws.{kind-said, turn-read}
 use Rattle.layout.specs.declared.margins.Margins.{Margins}
-use Rattle.layout.specs.Pose.{poseOf, composedOf}
-use Rattle.layout.specs.Margins.{marginsAfter}
-use Rattle.turned.specs.Turns.{doneBy, posed, marginsThrough}
+use Rattle.layout.specs.inner.Pose.{poseOf, composedOf}
+use Rattle.layout.specs.inner.Margins.{marginsAfter}
+use Rattle.turned.specs.inner.Turns.{doneBy, posed, marginsThrough}
 
 -- doneBy: the box with number j, whose type is k
 module _ {t head : List ℕ} {pl : Places} {f : File} (v : TableOf t head pl f) (id j : ℕ) (l : j < length (associationsOf f id))
@@ -36,7 +36,7 @@ module _ {t head : List ℕ} {pl : Places} {f : File} (v : TableOf t head pl f) 
 
   -- b is the box, and c its content
   pub done-turn : (b c : List ℕ) → b ≡ getD (boxesOf f id) j [] → c ≡ bodyOf b → (u : Turn) → transform k ≡ true →
-      (Sized k c → u ≡ turnBy s k c) → u ≡ doneBy s (getD (boxesOf f id) j [])
+      (LongAsAsked k c → u ≡ turnBy s k c) → u ≡ doneBy s (getD (boxesOf f id) j [])
   unfolding doneBy
   done-turn b c eb ec u q g = turn-read v id j l k e b c eb ec s u q g ∙ sym (pick-yes _ _ (ap transform (sym (kind-said v id j l k e)) ∙ q))
 

@@ -24,12 +24,12 @@ use Rattle.rules.specs.Joined.{noItem, itemAt}
 use Rattle.rules.specs.Places.{Places, placesIn}
 use Rattle.rules.specs.Words.{joinAll, headWords, propertiesFrom, extentWords, sizeWords, itemWords, recordsFrom, wordsOf}
 use Rattle.rules.proofs.SceneLaws.{picture-at}
-use Rattle.records.specs.Raw.{Bounded, namedWords, derivedWords, placeWords, recordOf, extentRow, associationRows, targetRows, rawOf}
+use Rattle.records.specs.inner.Raw.{Bounded, namedWords, derivedWords, placeWords, recordOf, extentRow, associationRows, targetRows, rawOf}
 use Rattle.records.proofs.JoinLaws.{join-same, join-length, join-getD}
 use Rattle.records.proofs.RawLaws.{rowWords, row-length, records-joined, targets-length}
 use Rattle.records.proofs.SetsLaws.{sets-first, sets-from, sets-over, getD-from}
 use Rattle.records.proofs.BoundLaws.{read-bounds}
-use Rattle.views.specs.View.{TableOf, SizesAre, AllPlaced, recordWord, noExtent}
+use Rattle.views.specs.inner.View.{TableOf, SizesAre, AllPlaced, recordWord, noExtent}
 use Rattle.views.proofs.LocatedLaws.{noLocation, each-located}
 use Rattle.views.proofs.PartLaws.{property-parts}
 use Rattle.views.proofs.RegionLaws.{tableBy, table-length, target-word, record-sets}

@@ -17,10 +17,10 @@ use Rattle.contents.specs.Iloc.{Location, locatedIn, entry-form, iloc-form}
 use Rattle.contents.specs.File.{File, readFile}
 use Rattle.contents.proofs.ReadLaws.{read-sound}
 use Rattle.rules.specs.Joined.{locatedAt, locationOf}
-use Rattle.records.specs.Rows.{Distinct}
+use Rattle.records.specs.inner.Rows.{Distinct}
 use Rattle.records.proofs.MemberLaws.{none-member, distinct-more}
 use Rattle.records.proofs.RawLaws.{id-at}
-use Rattle.views.specs.View.{idOf}
+use Rattle.views.specs.inner.View.{idOf}
 use Rattle.views.proofs.SoundLaws.{all-at}
 
 -- no entry, for a list's default

@@ -17,13 +17,13 @@ use Rattle.contents.specs.Iinf.{Item, idsOf}
 use Rattle.contents.specs.File.{File}
 use Rattle.rules.specs.Joined.{rowOf, noItem, itemAt}
 use Rattle.rules.specs.Places.{Places}
-use Rattle.records.specs.Rows.{Distinct, idAt, FoundIs}
+use Rattle.records.specs.inner.Rows.{Distinct, idAt, FoundIs}
 use Rattle.records.specs.declared.FoundRow.{FoundRow}
 use Rattle.records.specs.declared.FoundRow.the-variants.{At, Nothing}
 use Rattle.records.proofs.MemberLaws.{member-none, none-member, member-neither}
 use Rattle.records.proofs.RawLaws.{id-at, ids-long}
-use Rattle.views.specs.View.{TableOf, idOf}
-use Rattle.views.specs.Told.{toldRow}
+use Rattle.views.specs.inner.View.{TableOf, idOf}
+use Rattle.views.specs.inner.Told.{toldRow}
 
 -- rowOf
 pub row-of-at : (is : List Item) (r id : ℕ) → r < length is → Distinct (idsOf is) → getD is r noItem .id ≡ id → rowOf id is ≡ r

@@ -20,7 +20,7 @@ use Rattle.boxes.proofs.BoxLaws.{same-head, cut-only, full-cut, short-head}
 use Rattle.boxes.proofs.TopLaws.{meta-complete}
 use Rattle.forms.specs.Form.{give, demand, field, _>>=_}
 use Rattle.contents.specs.Full.{Full, full}
-use Rattle.contents.specs.Iprp.{Shown}
+use Rattle.contents.specs.Iprp.{IprpContent}
 use Rattle.contents.specs.Keeps.{Shows, Spelled}
 use Rattle.contents.specs.File.{File, dataOf, readFile}
 use Rattle.contents.proofs.ReadLaws.{read-sound}
@@ -99,7 +99,7 @@ file-sited total head f e =
     }
 
 -- Shows: the properties lie behind the header of the `ipco`, with which the content of an `iprp` begins
-properties-lie : (ids s : List ℕ) (v : Shown) → Shows ids s v → Lies s (headOf s) (flat (v .properties))
+properties-lie : (ids s : List ℕ) (v : IprpContent) → Shows ids s v → Lies s (headOf s) (flat (v .properties))
 properties-lie ids s v h =
     let a : List ℕ = h .first in
     let header = h .first-box .header in

@@ -14,15 +14,15 @@ use Rattle.boxes.specs.Box.{kindOf, bodyOf}
 use Rattle.forms.specs.Form.{give, demand, _>>=_}
 use Rattle.forms.proofs.ManyLaws.{many-all}
 use Rattle.contents.specs.Iinf.{idsOf}
-use Rattle.contents.specs.Ipco.{Held}
-use Rattle.contents.specs.Ipma.{Association, Named, association-form, named-form, ipma-form}
+use Rattle.contents.specs.Ipco.{GoodContent}
+use Rattle.contents.specs.Ipma.{Association, IpmaEntry, association-form, ipma-entry-form, ipma-form}
 use Rattle.contents.specs.Iref.{Derivation}
 use Rattle.contents.specs.File.{File, readFile}
 use Rattle.contents.proofs.ReadLaws.{read-sound}
 use Rattle.rules.specs.Joined.{namedFor, derivedFrom, noAssociation}
 use Rattle.rules.specs.Places.{placesIn}
 use Rattle.rules.proofs.ListedLaws.{read-listed}
-use Rattle.views.specs.View.{Sound}
+use Rattle.views.specs.inner.View.{Sound}
 use Rattle.views.proofs.PartLaws.{idat-part}
 
 -- All
@@ -39,22 +39,22 @@ association-names : (bytes most : ℕ) (before : List Association) (u : List ℕ
 unfolding association-form _>>=_ demand give
 association-names bytes most before u a s = subst (Names most) (sym (s .then .then .1)) (leb-true _ most (and-both _ _ (s .then .first .1) .0))
 
-abbrev NamesAll : ℕ → Named → Type 0
+abbrev NamesAll : ℕ → IpmaEntry → Type 0
 NamesAll most n = All (Names most) (n .list)
 
-named-names : (ids : List ℕ) (most v bytes : ℕ) (before : List Named) (u : List ℕ) (n : Named) →
-    named-form ids most v bytes before .Spells u n → NamesAll most n
-unfolding named-form _>>=_ give
+named-names : (ids : List ℕ) (most v bytes : ℕ) (before : List IpmaEntry) (u : List ℕ) (n : IpmaEntry) →
+    ipma-entry-form ids most v bytes before .Spells u n → NamesAll most n
+unfolding ipma-entry-form _>>=_ give
 named-names ids most v bytes before u n s =
     let w = s .then .then .then .then .then in
     subst (NamesAll most) (sym (w .then .1)) (many-all (Names most) (association-form bytes most) (association-names bytes most) _ [] _ _ tt (w .first))
 
-ipma-names : (ids : List ℕ) (most : ℕ) (s : List ℕ) (ns : List Named) → ipma-form ids most .Spells s ns → All (NamesAll most) ns
+ipma-names : (ids : List ℕ) (most : ℕ) (s : List ℕ) (ns : List IpmaEntry) → ipma-form ids most .Spells s ns → All (NamesAll most) ns
 unfolding ipma-form _>>=_
 ipma-names ids most s ns h = many-all (NamesAll most) _ (named-names ids most _ _) _ [] _ _ tt (h .then .then .then)
 
 -- namedFor, derivedFrom: what holds of each entry holds of an ID's
-named-all : (most : ℕ) (ns : List Named) (id : ℕ) → All (NamesAll most) ns → All (Names most) (namedFor ns id)
+named-all : (most : ℕ) (ns : List IpmaEntry) (id : ℕ) → All (NamesAll most) ns → All (Names most) (namedFor ns id)
 unfolding namedFor
 named-all most [] id a = tt
 named-all most (n ∷ ns) id a = both (All (Names most)) _ _ _ (λ e. a .0) (λ e. named-all most ns id (a .1))
@@ -71,7 +71,7 @@ read-makes-sure total head f e =
     record {
       indexed = λ id j h. all-at (Names (length (f .properties))) noAssociation (namedFor (f .associations) id)
           (named-all _ (f .associations) id (ipma-names _ _ _ _ (s .in-iprp .associations))) j h;
-      held = λ k h. all-at (λ (b : List ℕ). Held (kindOf b) (bodyOf b)) [] (f .properties) (s .in-iprp .properties .good) k h;
+      held = λ k h. all-at (λ (b : List ℕ). GoodContent (kindOf b) (bodyOf b)) [] (f .properties) (s .in-iprp .properties .good) k h;
       listed = λ id j h. all-at (λ (t : ℕ). member t (idsOf (f .items)) ≡ true) 0 (derivedFrom (f .derivations) id)
           (derived-all _ (f .derivations) id (read-listed total head f e)) j h;
       idat-room = idat-part total head f e .room;

@@ -14,15 +14,15 @@ use borrow.Author.Tests.{eqb-true, ne-eqb}
 use Rattle.fields.specs.Choice.{pick}
 use Rattle.fields.proofs.FieldLaws.{pick-yes, pick-no, both}
 use Rattle.contents.specs.Iloc.{Extent, Location, extentsIn}
-use Rattle.contents.specs.Ipma.{Association, Named, associationsIn}
+use Rattle.contents.specs.Ipma.{Association, IpmaEntry, associationsIn}
 use Rattle.contents.specs.Iref.{Derivation, targetsIn}
 use Rattle.rules.specs.Joined.{locatedAt, namedFor, derivedFrom, noAssociation}
 use Rattle.rules.specs.Words.{Group, joinAll, firstIn, totalOf, namedGroups, derivedGroups, locatedGroups, associationWord}
-use Rattle.records.specs.Raw.{associationRows, targetRows}
+use Rattle.records.specs.inner.Raw.{associationRows, targetRows}
 use Rattle.records.proofs.JoinLaws.{join-length, join-getD}
 use Rattle.records.proofs.SaidLaws.{named-total, derived-total, located-total}
 use Rattle.records.proofs.SetsLaws.{getD-from}
-use Rattle.views.specs.View.{noExtent}
+use Rattle.views.specs.inner.View.{noExtent}
 
 -- the first index of a span
 abbrev pub firstOf : ℕ → List Group → ℕ → ℕ
@@ -97,15 +97,16 @@ module _ {A B : Type 0} (key : A → ℕ) (of : A → B) (at : List A → ℕ �
           ∙ first-word es x 0 [] i (sym (mul-zero w)) h
 
 -- namedFor
-pub named-room : (ns : List Named) (x : ℕ) → firstOf x (namedGroups ns) (length (namedFor ns x)) + length (namedFor ns x) ≤ associationsIn ns
+pub named-room : (ns : List IpmaEntry) (x : ℕ) → firstOf x (namedGroups ns) (length (namedFor ns x)) + length (namedFor ns x) ≤ associationsIn ns
 unfolding namedFor
-named-room ns x = rw (named-total ns) at (span-room (λ (n : Named). n .id) (λ (n : Named). n .list) namedFor (λ a es y. refl) (λ l. length l) (λ y. refl) ns x)
+named-room ns x = rw (named-total ns) at (span-room (λ (n : IpmaEntry). n .id) (λ (n : IpmaEntry). n .list) namedFor
+    (λ a es y. refl) (λ l. length l) (λ y. refl) ns x)
 
-pub named-span : (ns : List Named) (x j : ℕ) → j < length (namedFor ns x)
+pub named-span : (ns : List IpmaEntry) (x j : ℕ) → j < length (namedFor ns x)
     → getD (associationRows ns) (firstOf x (namedGroups ns) (length (namedFor ns x)) + j) 0 ≡ associationWord (getD (namedFor ns x) j noAssociation)
 unfolding namedFor associationRows pick
 named-span ns x j h =
-    span-word (λ (n : Named). n .id) (λ (n : Named). n .list) namedFor (λ a es y. refl) (λ l. length l) (λ y. refl)
+    span-word (λ (n : IpmaEntry). n .id) (λ (n : IpmaEntry). n .list) namedFor (λ a es y. refl) (λ l. length l) (λ y. refl)
     (λ l. map (λ (a : Association). associationWord a) l) 1 (λ l. rw length-map (omega arith)) ns x j _ (rw length-map h) (omega arith)
     ∙ List·getD-map (λ (a : Association). associationWord a) (namedFor ns x) j noAssociation
 

@@ -7,7 +7,7 @@ use lib.ListN.{length, getD}
 use Rattle.contents.specs.File.{File}
 use Rattle.rules.specs.Places.{placesIn, propertyOffset}
 use Rattle.rules.specs.Words.{wordsOf}
-use Rattle.views.specs.View.{TableOf}
+use Rattle.views.specs.inner.View.{TableOf}
 use Rattle.views.specs.Lies.{LiesAt}
 use Rattle.views.proofs.ViewLaws.{words-offset}
 

@@ -15,8 +15,8 @@ use Rattle.contents.specs.File.{File}
 use Rattle.rules.specs.Joined.{associationsOf, targetsOf, locationOf, propertyAt, itemAt, noAssociation}
 use Rattle.rules.specs.Places.{Places, fileOffset}
 use Rattle.rules.specs.Words.{associationWord}
-use Rattle.records.specs.Raw.{capped}
-use Rattle.views.specs.View.{TableOf, recordWord, wide, idOf, noExtent}
+use Rattle.records.specs.inner.Raw.{capped}
+use Rattle.views.specs.inner.View.{TableOf, recordWord, wide, idOf, noExtent}
 
 -- propertyAt
 pub property-none : (f : File) (k : ℕ) → k ≡ 0 → propertyAt f k ≡ []

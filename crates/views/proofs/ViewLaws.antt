@@ -28,13 +28,13 @@ use Rattle.rules.specs.Opening.{accepted}
 use Rattle.rules.specs.Rules.{rule13-14}
 use Rattle.rules.specs.Words.{headWords, extentWords, sizeWords, itemWords, recordsFrom, wordsOf}
 use Rattle.rules.proofs.RuleLaws.{judged-each, accepted-both}
-use Rattle.records.specs.Raw.{Bounded, namedWords, derivedWords, placeWords, recordOf, capped, extentRow, extentRows, associationRows, targetRows, rawOf}
-use Rattle.records.specs.Rows.{Distinct}
+use Rattle.records.specs.inner.Raw.{Bounded, namedWords, derivedWords, placeWords, recordOf, capped, extentRow, extentRows, associationRows, targetRows, rawOf}
+use Rattle.records.specs.inner.Rows.{Distinct}
 use Rattle.records.proofs.JoinLaws.{join-getD}
 use Rattle.records.proofs.RawLaws.{rowWords, row-length, recordsIn, records-joined, records-length, raw-record}
 use Rattle.records.proofs.SetsLaws.{getD-from}
 use Rattle.records.proofs.BoundLaws.{read-bounds}
-use Rattle.views.specs.View.{TableOf, Judging, AllPlaced, recordWord, idOf, noExtent}
+use Rattle.views.specs.inner.View.{TableOf, Judging, AllPlaced, recordWord, idOf, noExtent}
 use Rattle.views.proofs.LieLaws.{PartIn}
 use Rattle.views.proofs.RegionLaws.{tableBy, record-word}
 use Rattle.views.proofs.WordLaws.{Rows, Spells, tableWith, fill, place-at, view}

@@ -12,12 +12,12 @@ use Rattle.contents.specs.File.{File}
 use Rattle.rules.specs.Joined.{locationOf, associationsOf, targetsOf, itemAt, noAssociation}
 use Rattle.rules.specs.Places.{Places, fileOffset}
 use Rattle.rules.specs.Words.{headWords, propertiesFrom, associationWord, namedGroups, derivedGroups, locatedGroups}
-use Rattle.records.specs.Raw.{Bounded, namedWords, derivedWords, placeWords, recordOf, capped, extentRow, associationRows, targetRows}
-use Rattle.records.specs.Rows.{Distinct}
+use Rattle.records.specs.inner.Raw.{Bounded, namedWords, derivedWords, placeWords, recordOf, capped, extentRow, associationRows, targetRows}
+use Rattle.records.specs.inner.Rows.{Distinct}
 use Rattle.records.proofs.RawLaws.{rowWords, properties-length, associations-length, targets-length}
 use Rattle.records.proofs.SaidLaws.{derived-total}
 use Rattle.records.proofs.SetsLaws.{getD-from}
-use Rattle.views.specs.View.{Sound, TableOf, recordWord, wide, idOf, noExtent}
+use Rattle.views.specs.inner.View.{Sound, TableOf, recordWord, wide, idOf, noExtent}
 use Rattle.views.proofs.LieLaws.{PartIn}
 use Rattle.views.proofs.SpanLaws.{firstOf, named-room, named-span, target-room, target-span, extent-room, extent-span, extentsBy, extents-by-length}
 use Rattle.views.proofs.RegionLaws.{tableBy, Fill, table-length, head-word, record-word, property-word, association-word, target-word, extent-word}

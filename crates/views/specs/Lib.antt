@@ -1,3 +1,2 @@
-pub mod View
-pub mod Told
 pub mod Lies
+pub mod inner

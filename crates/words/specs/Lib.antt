@@ -1,1 +1,1 @@
-pub mod Subject
+pub mod inner

@@ -5,7 +5,7 @@ mod orientation;
 
 ghost use mathlib.Core.Path.{_≡_};
 ghost use Rattle.fields.specs.Lists.{member};
-ghost use Rattle.words.specs.Subject.{kindOf, printable, text};
+ghost use Rattle.words.specs.inner.Subject.{kindOf, printable, text};
 use boxes::Refusal;
 use numbers::print_asked_words;
 use numbers::print_box_words;

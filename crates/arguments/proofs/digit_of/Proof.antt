@@ -2,7 +2,7 @@
 use borrow.Author.Tests.{lt-ltb, le-ltb}
 use borrow.Author.Needs.{needs}
 use Rattle.fields.specs.Choice.{pick}
-use Rattle.arguments.specs.Number.{digitOf}
+use Rattle.arguments.specs.inner.Number.{digitOf}
 use Rattle.arguments.proofs.digit_of.Statement.{statement}
 use Rattle.arguments.proofs.digit_of.Tie as tie
 

@@ -1,7 +1,7 @@
 -- `arguments::later_word_of` answers `laterWordOf`, a return for each word. Assumes nothing.
 use mathlib.Core.Path.{sym, _∙_}
 use Rattle.fields.specs.Choice.{pick}
-use Rattle.arguments.specs.Word.{laterWordOf}
+use Rattle.arguments.specs.inner.Word.{laterWordOf}
 use borrow.Author.Needs.{needs}
 use Rattle.arguments.proofs.later_word_of.Statement.{statement}
 use Rattle.arguments.proofs.later_word_of.Tie as tie

@@ -5,8 +5,8 @@ use mathlib.Core.Path.{_≡_, sym, subst}
 use mathlib.Core.Bool.{true}
 use lib.ListN.{length}
 use borrow.Author.Needs.{needs}
-use Rattle.arguments.specs.Number.{digits}
-use Rattle.arguments.specs.Number.{value as valueTo}
+use Rattle.arguments.specs.inner.Number.{digits}
+use Rattle.arguments.specs.inner.Number.{value as valueTo}
 use Rattle.arguments.proofs.NumberLaws.{digits-none, value-none, digits-more, value-more, empty-bad, other-bad, large-bad, spelled}
 use Rattle.arguments.proofs.number_of.Statement.{statement}
 use Rattle.arguments.proofs.number_of.Tie as tie

@@ -1,7 +1,7 @@
 -- `arguments::word_of` answers `wordOf`, a return for each word. Assumes nothing.
 use mathlib.Core.Path.{sym, _∙_}
 use Rattle.fields.specs.Choice.{pick}
-use Rattle.arguments.specs.Word.{wordOf}
+use Rattle.arguments.specs.inner.Word.{wordOf}
 use borrow.Author.Needs.{needs}
 use Rattle.arguments.proofs.word_of.Statement.{statement}
 use Rattle.arguments.proofs.word_of.Tie as tie

@@ -4,7 +4,7 @@ use Prim.Native.Nat.{_-_, _<_, _≤_}
 use mathlib.Core.Path.{_∙_}
 use lib.ListN.{length}
 use Rattle.rules.specs.Joined.{associationsOf}
-use Rattle.views.specs.View.{idOf}
+use Rattle.views.specs.inner.View.{idOf}
 use Rattle.declared.proofs.NamedLaws.{index-read}
 use Rattle.asked.proofs.PicturedLaws.{found-row}
 use Rattle.asked.proofs.AskedLaws.{index-none, index-under, index-over, index-at}

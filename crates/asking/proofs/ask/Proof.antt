@@ -1,6 +1,6 @@
 -- `asking::ask` is safe and ends: what was kept lies in the head. Assumes nothing.
 use mathlib.Core.Path.{subst}
-use Rattle.input.specs.Within.{Within}
+use Rattle.input.specs.inner.Within.{Within}
 use borrow.Author.Needs.{needs}
 use Rattle.asking.proofs.ask.Statement.{statement}
 use Rattle.asking.proofs.ask.Tie as tie

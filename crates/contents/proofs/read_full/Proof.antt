@@ -1,7 +1,7 @@
 -- `contents::read_full` meets its contract. Assumes nothing.
 use mathlib.Core.Path.{sym, ap}
 use Rattle.contents.specs.Full.{between}
-use Rattle.contents.specs.Told.{toldFull}
+use Rattle.contents.specs.inner.Told.{toldFull}
 use Rattle.contents.proofs.FullLaws.{between-low, between-high, between-in, full-empty, full-version, full-cut, full-is}
 use borrow.Author.Needs.{needs}
 use Rattle.contents.proofs.read_full.Statement.{statement}

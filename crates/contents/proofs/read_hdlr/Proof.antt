@@ -1,7 +1,7 @@
 -- `contents::read_hdlr` meets its contract. Assumes nothing.
 use mathlib.Core.Path.{sym, ap, _∙_}
 use Rattle.contents.specs.Full.{upto}
-use Rattle.contents.specs.Told.{toldHdlr}
+use Rattle.contents.specs.inner.Told.{toldHdlr}
 use Rattle.contents.proofs.FullLaws.{full-here, full-gone, hdlr-gone, hdlr-short, hdlr-pict, hdlr-other}
 use borrow.Author.Needs.{needs}
 use Rattle.contents.proofs.read_hdlr.Statement.{statement}

@@ -3,7 +3,7 @@ use mathlib.Core.Path.{sym, ap, _∙_}
 use borrow.Author.Tests.{eq-eqb, ne-eqb}
 use Rattle.fields.proofs.FieldLaws.{pick-yes, pick-no}
 use Rattle.contents.specs.Full.{upto}
-use Rattle.contents.specs.Told.{toldPitm}
+use Rattle.contents.specs.inner.Told.{toldPitm}
 use Rattle.contents.proofs.FullLaws.{full-here, full-gone, pitm-gone, pitm-is, pitm-not}
 use borrow.Author.Needs.{needs}
 use Rattle.contents.proofs.read_pitm.Statement.{statement}

@@ -2,7 +2,7 @@
 use mathlib.Core.Path.{sym, _∙_}
 use borrow.Author.Tests.{eq-eqb, ne-eqb, lt-ltb, le-ltb, le-leb, lt-leb}
 use Rattle.fields.proofs.FieldLaws.{pick-yes, pick-no}
-use Rattle.corners.specs.Place.{spanOf}
+use Rattle.corners.specs.inner.Place.{spanOf}
 use borrow.Author.Needs.{needs}
 use Rattle.corners.proofs.span_of.Statement.{statement}
 use Rattle.corners.proofs.span_of.Tie as tie

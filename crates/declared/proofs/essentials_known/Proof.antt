@@ -12,7 +12,7 @@ use Rattle.contents.specs.File.{File}
 use Rattle.rules.specs.Joined.{associationsOf}
 use Rattle.rules.specs.Places.{Places}
 use Rattle.rules.specs.Rules.{essentialKnown}
-use Rattle.views.specs.View.{TableOf, idOf}
+use Rattle.views.specs.inner.View.{TableOf, idOf}
 use Rattle.declared.proofs.EssentialLaws.{essential-not, essential-known, essential-unknown, essential-none}
 use Rattle.declared.proofs.essentials_known.Statement.{statement}
 use Rattle.declared.proofs.essentials_known.Tie as tie

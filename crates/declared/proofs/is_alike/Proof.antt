@@ -9,7 +9,7 @@ use Rattle.fields.proofs.TestLaws.{untrue}
 use Rattle.contents.specs.File.{File}
 use Rattle.rules.specs.Joined.{associationsOf}
 use Rattle.rules.specs.Places.{Places}
-use Rattle.views.specs.View.{TableOf, idOf}
+use Rattle.views.specs.inner.View.{TableOf, idOf}
 use Rattle.declared.proofs.AlikeLaws.{AlikeTo, alike-more, alike-all}
 use Rattle.declared.proofs.is_alike.Statement.{statement}
 use Rattle.declared.proofs.is_alike.Tie as tie

@@ -1,6 +1,6 @@
 -- `declared::kind_of` meets its contract. Assumes nothing.
 use borrow.Author.Needs.{needs}
-use Rattle.views.specs.View.{idOf}
+use Rattle.views.specs.inner.View.{idOf}
 use Rattle.declared.proofs.NamedLaws.{kind-named}
 use Rattle.declared.proofs.kind_of.Statement.{statement}
 use Rattle.declared.proofs.kind_of.Tie as tie

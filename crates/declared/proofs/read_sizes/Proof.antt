@@ -14,8 +14,8 @@ use Rattle.pictures.specs.Decode.{transform}
 use Rattle.rules.specs.Joined.{associationsOf}
 use Rattle.rules.specs.Places.{Places}
 use Rattle.rules.specs.Rules.{essentialKnown}
-use Rattle.views.specs.View.{TableOf, idOf}
-use Rattle.declared.specs.Told.{toldSizes}
+use Rattle.views.specs.inner.View.{TableOf, idOf}
+use Rattle.declared.specs.inner.Told.{toldSizes}
 use Rattle.declared.proofs.EssentialLaws.{essential-not, essential-known, essential-unknown}
 use Rattle.declared.proofs.ToldLaws.{toldFrom, told-all, told-end, told-unknown, told-second, told-early, told-declared, told-turned, told-other}
 use Rattle.declared.proofs.read_sizes.Statement.{statement}

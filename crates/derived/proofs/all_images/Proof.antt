@@ -11,8 +11,8 @@ use Rattle.contents.specs.File.{File}
 use Rattle.rules.specs.Joined.{targetsOf}
 use Rattle.rules.specs.Derivations.{allImages}
 use Rattle.rules.specs.Places.{Places}
-use Rattle.views.specs.View.{TableOf, idOf}
-use Rattle.derived.specs.Told.{Resolved}
+use Rattle.views.specs.inner.View.{TableOf, idOf}
+use Rattle.derived.specs.inner.Told.{Resolved}
 use Rattle.derived.proofs.InputLaws.{input-image, images-not, images-more, images-all}
 use Rattle.derived.proofs.all_images.Statement.{statement}
 use Rattle.derived.proofs.all_images.Tie as tie

@@ -7,7 +7,7 @@ use lib.ListN.{length, length-set}
 use borrow.Author.Needs.{needs}
 use Rattle.contents.specs.File.{File}
 use Rattle.rules.specs.Places.{Places}
-use Rattle.views.specs.View.{TableOf}
+use Rattle.views.specs.inner.View.{TableOf}
 use Rattle.derived.proofs.InputLaws.{ResolvedTo, resolved-more, resolved-all, targets-few}
 use Rattle.derived.proofs.resolve.Statement.{statement}
 use Rattle.derived.proofs.resolve.Tie as tie

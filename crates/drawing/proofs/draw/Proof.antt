@@ -1,6 +1,6 @@
 -- `drawing::draw` is safe and ends: what was kept lies in the head. Assumes nothing.
 use mathlib.Core.Path.{subst}
-use Rattle.input.specs.Within.{Within}
+use Rattle.input.specs.inner.Within.{Within}
 use borrow.Author.Needs.{needs}
 use Rattle.drawing.proofs.draw.Statement.{statement}
 use Rattle.drawing.proofs.draw.Tie as tie

@@ -8,7 +8,7 @@ use borrow.Author.Needs.{needs}
 use Rattle.contents.specs.File.{File}
 use Rattle.rules.specs.Joined.{associationsOf, boxesOf}
 use Rattle.rules.specs.Places.{Places}
-use Rattle.views.specs.View.{TableOf, idOf}
+use Rattle.views.specs.inner.View.{TableOf, idOf}
 use Rattle.declared.proofs.NamedLaws.{boxes-many}
 use Rattle.facing.proofs.FacedLaws.{FacedFrom, faced-none, faced-clap, faced-skip, faced-turn, faced-all}
 use Rattle.facing.proofs.orientation_of.Statement.{statement}

@@ -1,6 +1,6 @@
 -- `input::read_input` keeps its promise. Assumes nothing.
 use mathlib.Core.Path.{subst}
-use Rattle.input.specs.Within.{AtLeast}
+use Rattle.input.specs.inner.Within.{AtLeast}
 use borrow.Author.Needs.{needs}
 use Rattle.input.proofs.read_input.Statement.{statement}
 use Rattle.input.proofs.read_input.Tie as tie

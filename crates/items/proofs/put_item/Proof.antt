@@ -1,6 +1,6 @@
 -- `items::put_item` meets its contract. Assumes nothing.
 use lib.ListN.{length-set}
-use Rattle.items.specs.Told.{rowPut}
+use Rattle.items.specs.inner.Told.{rowPut}
 use native.Mathlib.Omega.{arith}
 use borrow.Author.Needs.{needs}
 use Rattle.items.proofs.put_item.Statement.{statement}

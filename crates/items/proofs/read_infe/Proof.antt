@@ -5,7 +5,7 @@ use borrow.Author.Tests.{eq-eqb, ne-eqb}
 use Rattle.fields.proofs.FieldLaws.{pick-yes, pick-no}
 use Rattle.contents.specs.Full.{between}
 use Rattle.contents.proofs.FullLaws.{full-here, full-gone}
-use Rattle.items.specs.Told.{toldInfe}
+use Rattle.items.specs.inner.Told.{toldInfe}
 use Rattle.items.proofs.FieldLaws.{infe-gone}
 use borrow.Author.Needs.{needs}
 use Rattle.items.proofs.read_infe.Statement.{statement}

@@ -2,7 +2,7 @@
 use mathlib.Core.Path.{sym, ap}
 use mathlib.Core.Bool.{true, false}
 use mathlib.Core.Logic.{⊎-elim}
-use Rattle.items.specs.Told.{toldInfe}
+use Rattle.items.specs.inner.Told.{toldInfe}
 use Rattle.items.proofs.FieldLaws.{taken-is, infe-short, infe-taken, infe-cut, infe-is}
 use native.Mathlib.Omega.{arith}
 use borrow.Author.Needs.{needs}

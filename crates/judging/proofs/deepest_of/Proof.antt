@@ -2,7 +2,7 @@
 use Prim.Native.Nat.{ℕ, _-_, _≤_, _<_}
 use native.Mathlib.Omega.{arith}
 use mathlib.Core.Logic.{⊎-elim}
-use Rattle.views.specs.View.{recordWord}
+use Rattle.views.specs.inner.View.{recordWord}
 use Rattle.judging.proofs.JudgedLaws.{none-larger}
 use borrow.Author.Needs.{needs}
 use Rattle.judging.proofs.deepest_of.Statement.{statement}

@@ -1,5 +1,5 @@
 -- `judging::fault_of` meets its contract. Assumes nothing.
-use Rattle.judging.specs.Order.{ruleBy}
+use Rattle.judging.specs.inner.Order.{ruleBy}
 use Rattle.judging.specs.declared.Rule.the-variants.{Placed, Derived, Itself, Deep}
 use Rattle.judging.proofs.OrderLaws.{by-rule}
 use borrow.Author.Needs.{needs}

@@ -4,7 +4,7 @@ use native.Mathlib.Omega.{arith}
 use mathlib.Core.Path.{_≡_, refl, _∙_}
 use lib.ListN.{length}
 use Rattle.contents.specs.File.{File}
-use Rattle.judging.specs.Order.{Ready}
+use Rattle.judging.specs.inner.Order.{Ready}
 use Rattle.judging.proofs.OrderLaws.{from, order-end, order-on, order-off, ready-view}
 use borrow.Author.Needs.{needs}
 use Rattle.judging.proofs.first_fault.Statement.{statement}

@@ -1,6 +1,6 @@
 -- `judging::judge_pictures` meets its contract. Assumes nothing.
 use mathlib.Core.Path.{sym, ap, _∙_}
-use Rattle.judging.specs.Order.{picturesJudged, toldJudged}
+use Rattle.judging.specs.inner.Order.{picturesJudged, toldJudged}
 use Rattle.judging.proofs.JudgedLaws.{told-off, told-on, pictures-shallow}
 use borrow.Author.Needs.{needs}
 use Rattle.judging.proofs.judge_pictures.Statement.{statement}

@@ -9,7 +9,7 @@ use borrow.Author.Needs.{needs}
 use Rattle.fields.proofs.TestLaws.{untrue}
 use Rattle.contents.specs.File.{File}
 use Rattle.rules.specs.Derivations.{sceneOf}
-use Rattle.sizing.specs.Drawn.{Drawn}
+use Rattle.sizing.specs.inner.Drawn.{Drawn}
 use Rattle.judging.proofs.SceneLaws.{deep-word}
 use Rattle.judging.proofs.MisfitLaws.{Least, least-begun, least-same, least-other, least-more, least-none, least-named, least-row}
 use Rattle.judging.proofs.judge_sizes.Statement.{statement}

@@ -1,6 +1,6 @@
 -- `listing::main` is safe and ends: what was kept lies in the head. Assumes nothing.
 use mathlib.Core.Path.{subst}
-use Rattle.input.specs.Within.{Within}
+use Rattle.input.specs.inner.Within.{Within}
 use borrow.Author.Needs.{needs}
 use Rattle.listing.proofs.main.Statement.{statement}
 use Rattle.listing.proofs.main.Tie as tie

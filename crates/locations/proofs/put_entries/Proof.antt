@@ -2,8 +2,8 @@
 -- table. The measure is how many are left. Assumes nothing.
 use Prim.Native.Nat.{_-_}
 use mathlib.Core.Path.{sym, ap, _∙_, subst}
-use Rattle.locations.specs.Told.{toldLocations}
-use Rattle.locations.specs.Parts.{PutAre}
+use Rattle.locations.specs.inner.Told.{toldLocations}
+use Rattle.locations.specs.inner.Parts.{PutAre}
 use Rattle.locations.proofs.LoopLaws.{So, so-start, so-refused, so-again, so-left, so-done}
 use native.Mathlib.Omega.{arith}
 use borrow.Author.Needs.{needs}

@@ -1,6 +1,6 @@
 -- `locations::put_entry` meets its contract. Assumes nothing.
 use mathlib.Core.Path.{refl, subst}
-use Rattle.locations.specs.Parts.{EntryAre}
+use Rattle.locations.specs.inner.Parts.{EntryAre}
 use Rattle.locations.proofs.EntryLaws.{put-gone, put-are}
 use native.Mathlib.Omega.{arith}
 use borrow.Author.Needs.{needs}

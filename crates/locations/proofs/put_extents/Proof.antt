@@ -6,7 +6,7 @@ use native.Mathlib.Nat.{zero-mul}
 use lib.ListN.{length}
 use lib.Seq.{sets}
 use Rattle.rules.specs.Words.{joinAll}
-use Rattle.locations.specs.Parts.{each, extentsAt, rowFrom}
+use Rattle.locations.specs.inner.Parts.{each, extentsAt, rowFrom}
 use Rattle.locations.proofs.PutLaws.{one-fits, one-further, extents-stored, extents-begun}
 use native.Mathlib.Omega.{arith}
 use borrow.Author.Needs.{needs}

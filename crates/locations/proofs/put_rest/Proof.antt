@@ -1,5 +1,5 @@
 -- `locations::put_rest` meets its contract: one test of the length stands for all extents. Assumes nothing.
-use Rattle.locations.specs.Parts.{each}
+use Rattle.locations.specs.inner.Parts.{each}
 use Rattle.locations.proofs.EntryLaws.{each-most}
 use Rattle.locations.proofs.PutLaws.{sizes-most, stored-here}
 use native.Mathlib.Omega.{arith}

@@ -1,7 +1,7 @@
 -- `locations::read_entry` meets its contract, a way out at a time. Assumes nothing.
 use mathlib.Core.Path.{subst}
 use Prim.Native.Nat.{_+_}
-use Rattle.locations.specs.Parts.{RowAre, RestAre}
+use Rattle.locations.specs.inner.Parts.{RowAre, RestAre}
 use Rattle.locations.proofs.EntryLaws.{entry-short, entry-gone, entry-rest-gone, entry-here}
 use borrow.Author.Needs.{needs}
 use Rattle.locations.proofs.read_entry.Statement.{statement}

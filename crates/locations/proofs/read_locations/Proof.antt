@@ -3,9 +3,9 @@ use mathlib.Core.Path.{sym, ap, _∙_, subst}
 use lib.ListN.{drop}
 use Rattle.contents.specs.Full.{upto}
 use Rattle.contents.proofs.FullLaws.{full-here, full-gone}
-use Rattle.records.specs.Rows.{idsIn}
-use Rattle.locations.specs.Told.{toldLocations}
-use Rattle.locations.specs.Parts.{sizes-form, SizesAre}
+use Rattle.records.specs.inner.Rows.{idsIn}
+use Rattle.locations.specs.inner.Told.{toldLocations}
+use Rattle.locations.specs.inner.Parts.{sizes-form, SizesAre}
 use Rattle.locations.proofs.SizeLaws.{iloc-gone, iloc-sizes-gone, iloc-entries, four-wide}
 use Rattle.locations.proofs.LoopLaws.{told-same, left-whole, left-gone}
 use native.Mathlib.Omega.{arith}

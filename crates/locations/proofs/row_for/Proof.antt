@@ -2,7 +2,7 @@
 use mathlib.Core.Path.{sym, ap, _∙_, subst}
 use Prim.Native.Nat.{ℕ, _+_}
 use lib.ListN.{getD}
-use Rattle.records.specs.Rows.{FoundIs}
+use Rattle.records.specs.inner.Rows.{FoundIs}
 use Rattle.locations.proofs.TableLaws.{row-twice, row-here, row-unlisted}
 use native.Mathlib.Omega.{arith}
 use borrow.Author.Needs.{needs}

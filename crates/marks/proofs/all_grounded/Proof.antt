@@ -4,8 +4,8 @@ use Prim.Native.Nat.{_+_}
 use mathlib.Core.Path.{_≡_, refl, sym, _∙_}
 use lib.ListN.{length}
 use Rattle.fields.specs.Choice.{pick}
-use Rattle.marks.specs.Marks.{Bits, bare}
-use Rattle.marks.specs.Grounds.{Grounded}
+use Rattle.marks.specs.inner.Marks.{Bits, bare}
+use Rattle.marks.specs.inner.Grounds.{Grounded}
 use Rattle.marks.proofs.MarkLaws.{grown-less, zeros-bits}
 use Rattle.marks.proofs.GroundLaws.{grounded-none, grounded-all}
 use borrow.Author.Needs.{needs}

@@ -3,7 +3,7 @@ use Prim.Native.Nat.{ℕ, _-_, _≤_, _<_}
 use native.Mathlib.Omega.{arith}
 use mathlib.Core.Path.{sym, _∙_}
 use Rattle.fields.proofs.TestLaws.{untrue}
-use Rattle.marks.specs.Marks.{Marked}
+use Rattle.marks.specs.inner.Marks.{Marked}
 use Rattle.marks.proofs.GroundLaws.{rows-more}
 use borrow.Author.Needs.{needs}
 use Rattle.marks.proofs.all_marked.Statement.{statement}

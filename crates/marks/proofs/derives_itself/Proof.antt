@@ -1,7 +1,7 @@
 -- `marks::derives_itself` meets its contract. Assumes nothing.
 use native.Mathlib.Omega.{arith}
 use lib.ListN.{replicate}
-use Rattle.marks.specs.Marks.{IsInput}
+use Rattle.marks.specs.inner.Marks.{IsInput}
 use Rattle.marks.proofs.MarkLaws.{zeros-bits, zeros-room, listing-first, found-all, itself-found}
 use borrow.Author.Needs.{needs}
 use Rattle.marks.proofs.derives_itself.Statement.{statement}

@@ -4,7 +4,7 @@ use native.Mathlib.Omega.{arith}
 use mathlib.Core.Path.{_≡_, refl, _∙_}
 use mathlib.Core.Logic.{⊎-elim}
 use lib.ListN.{length}
-use Rattle.marks.specs.Grounds.{Ground}
+use Rattle.marks.specs.inner.Grounds.{Ground}
 use Rattle.marks.proofs.MarkLaws.{or-took, or-left}
 use Rattle.marks.proofs.GroundLaws.{ground-same, ground-both}
 use borrow.Author.Needs.{needs}

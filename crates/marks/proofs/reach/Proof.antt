@@ -3,7 +3,7 @@ use Prim.Native.Nat.{_+_, _-_, _≤_}
 use native.Mathlib.Omega.{arith}
 use mathlib.Core.Path.{_≡_, refl, _∙_}
 use lib.ListN.{length, getD}
-use Rattle.marks.specs.Marks.{Among, Reached}
+use Rattle.marks.specs.inner.Marks.{Among, Reached}
 use Rattle.marks.proofs.MarkLaws.{reached-none, reached-more, reached-inputs}
 use borrow.Author.Needs.{needs}
 use Rattle.marks.proofs.reach.Statement.{statement}

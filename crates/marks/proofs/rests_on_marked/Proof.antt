@@ -4,7 +4,7 @@ use native.Mathlib.Omega.{arith}
 use mathlib.Core.Path.{_≡_, sym, _∙_}
 use lib.ListN.{getD}
 use Rattle.fields.proofs.TestLaws.{untrue}
-use Rattle.marks.specs.Marks.{Marked, Among}
+use Rattle.marks.specs.inner.Marks.{Marked, Among}
 use Rattle.marks.proofs.GroundLaws.{among-more, inputs-by}
 use borrow.Author.Needs.{needs}
 use Rattle.marks.proofs.rests_on_marked.Statement.{statement}

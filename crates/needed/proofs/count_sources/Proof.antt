@@ -5,7 +5,7 @@ use mathlib.Core.Path.{_≡_, ap, _∙_}
 use mathlib.Core.Logic.{⊎-elim}
 use lib.ListN.{length}
 use borrow.Author.Needs.{needs}
-use Rattle.needed.specs.Marked.{markedOf}
+use Rattle.needed.specs.inner.Marked.{markedOf}
 use Rattle.needed.proofs.MarkedLaws.{marked-few, count-none, count-take, count-pass}
 use Rattle.needed.proofs.count_sources.Statement.{statement}
 use Rattle.needed.proofs.count_sources.Tie as tie

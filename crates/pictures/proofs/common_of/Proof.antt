@@ -1,5 +1,5 @@
 -- `pictures::common_of` meets its contract. Assumes nothing.
-use Rattle.pictures.specs.Steps.{common}
+use Rattle.pictures.specs.inner.Steps.{common}
 use Rattle.pictures.proofs.EdgeLaws.{room-fits}
 use mathlib.Core.Path.{refl}
 use native.Mathlib.Omega.{arith}

@@ -1,5 +1,5 @@
 -- `pictures::halved_of` meets its contract. Assumes nothing.
-use Rattle.pictures.specs.Steps.{halve}
+use Rattle.pictures.specs.inner.Steps.{halve}
 use mathlib.Core.Path.{refl}
 use borrow.Author.Needs.{needs}
 use Rattle.pictures.proofs.halved_of.Statement.{statement}

@@ -1,5 +1,5 @@
 -- `pictures::is_whole` meets its contract. Assumes nothing.
-use Rattle.pictures.specs.Steps.{whole}
+use Rattle.pictures.specs.inner.Steps.{whole}
 use mathlib.Core.Path.{refl}
 use borrow.Author.Needs.{needs}
 use Rattle.pictures.proofs.is_whole.Statement.{statement}

@@ -1,6 +1,6 @@
 -- `pictures::stepped_edge` meets its contract. Assumes nothing.
 use Rattle.pictures.specs.Signed.{signed}
-use Rattle.pictures.specs.Told.{toldEdge}
+use Rattle.pictures.specs.inner.Told.{toldEdge}
 use Rattle.pictures.proofs.EdgeLaws.{step-is, step-fails, stepped-below, stepped-halved}
 use mathlib.Core.Path.{sym, ap, _∙_}
 use borrow.Author.Needs.{needs}

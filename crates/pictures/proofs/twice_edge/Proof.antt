@@ -1,5 +1,5 @@
 -- `pictures::twice_edge` meets its contract. Assumes nothing.
-use Rattle.pictures.specs.Told.{toldStep}
+use Rattle.pictures.specs.inner.Told.{toldStep}
 use Rattle.pictures.proofs.EdgeLaws.{twice-right, twice-below, twice-left}
 use mathlib.Core.Path.{sym, ap}
 use borrow.Author.Needs.{needs}

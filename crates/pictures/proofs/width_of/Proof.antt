@@ -1,5 +1,5 @@
 -- `pictures::width_of` meets its contract. Assumes nothing.
-use Rattle.pictures.specs.Told.{toldStep}
+use Rattle.pictures.specs.inner.Told.{toldStep}
 use Rattle.pictures.proofs.EdgeLaws.{width-none, width-part, width-over, width-is}
 use mathlib.Core.Path.{sym, ap}
 use native.Mathlib.Omega.{arith}

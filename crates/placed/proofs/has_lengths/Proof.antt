@@ -12,7 +12,7 @@ use Rattle.contents.specs.File.{File}
 use Rattle.rules.specs.Bytes.{allExtents, goodLengths}
 use Rattle.rules.specs.Joined.{locationOf}
 use Rattle.rules.specs.Places.{Places}
-use Rattle.views.specs.View.{TableOf, idOf}
+use Rattle.views.specs.inner.View.{TableOf, idOf}
 use Rattle.placed.proofs.ExtentLaws.{extents-count, extents-fail, extents-on, extents-pass, some-length, no-length}
 use Rattle.placed.proofs.has_lengths.Statement.{statement}
 use Rattle.placed.proofs.has_lengths.Tie as tie

@@ -9,7 +9,7 @@ use Rattle.contents.specs.File.{File}
 use Rattle.rules.specs.Bytes.{allExtents}
 use Rattle.rules.specs.Joined.{locationOf}
 use Rattle.rules.specs.Places.{Places}
-use Rattle.views.specs.View.{TableOf, idOf}
+use Rattle.views.specs.inner.View.{TableOf, idOf}
 use Rattle.placed.proofs.ExtentLaws.{extents-count, extents-fail, extents-on, extents-pass, extents-both, endsBy, ends-empty, ends-past, ends-before}
 use Rattle.placed.proofs.lie_before.Statement.{statement}
 use Rattle.placed.proofs.lie_before.Tie as tie

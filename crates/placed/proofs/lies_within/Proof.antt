@@ -4,7 +4,7 @@ use mathlib.Core.Bool.{Bool, _&&_}
 use borrow.Author.Needs.{needs}
 use Rattle.rules.specs.Bytes.{goodLengths}
 use Rattle.rules.specs.Joined.{locationOf}
-use Rattle.views.specs.View.{idOf}
+use Rattle.views.specs.inner.View.{idOf}
 use Rattle.placed.proofs.PlaceLaws.{within-idat, within-file}
 use Rattle.placed.proofs.lies_within.Statement.{statement}
 use Rattle.placed.proofs.lies_within.Tie as tie

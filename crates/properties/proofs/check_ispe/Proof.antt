@@ -2,7 +2,7 @@
 use Rattle.contents.proofs.FullLaws.{full-here, full-gone}
 use Rattle.contents.specs.Full.{upto}
 use Rattle.properties.proofs.CheckLaws.{ispe-gone, ispe-here}
-use Rattle.properties.specs.Steps.{toldChecked}
+use Rattle.properties.specs.inner.Steps.{toldChecked}
 use mathlib.Core.Path.{sym, ap, _∙_}
 use borrow.Author.Needs.{needs}
 use Rattle.properties.proofs.check_ispe.Statement.{statement}

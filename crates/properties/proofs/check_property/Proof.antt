@@ -1,6 +1,6 @@
 -- `properties::check_property` meets its contract. Assumes nothing.
 use Rattle.properties.proofs.CheckLaws.{held-ispe, held-clap, held-irot, held-imir, held-other}
-use Rattle.properties.specs.Steps.{toldChecked}
+use Rattle.properties.specs.inner.Steps.{toldChecked}
 use mathlib.Core.Path.{sym, ap, _∙_}
 use borrow.Author.Needs.{needs}
 use Rattle.properties.proofs.check_property.Statement.{statement}

@@ -1,6 +1,6 @@
 -- `properties::has_length` meets its contract. Assumes nothing.
 use Rattle.properties.proofs.CheckLaws.{bytes-whole, bytes-other}
-use Rattle.properties.specs.Steps.{toldChecked}
+use Rattle.properties.specs.inner.Steps.{toldChecked}
 use mathlib.Core.Path.{sym, ap}
 use Rattle.properties.proofs.has_length.Statement.{statement}
 use Rattle.properties.proofs.has_length.Tie as tie

@@ -22,26 +22,26 @@ add-base c =
     let h = iprp-within (c5 .args .s .now) (c5 .args .at) _ (c5 .pre .0) (c5 .pre .1) in
     omega arith
 
-sub-read-shown : tie.Need-sub-read-shown
-sub-read-shown c =
+sub-read-iprp-content : tie.Need-sub-read-iprp-content
+sub-read-iprp-content c =
     let c5 = c .before .before .before .before .before in
     let h = iprp-within (c5 .args .s .now) (c5 .args .at) _ (c5 .pre .0) (c5 .pre .1) in
     omega arith
 
-part-read-shown-start : tie.Need-part-read-shown-start
-part-read-shown-start c =
+part-read-iprp-content-start : tie.Need-part-read-iprp-content-start
+part-read-iprp-content-start c =
     let c5 = c .before .before .before .before .before in
     let h = iprp-within (c5 .args .s .now) (c5 .args .at) _ (c5 .pre .0) (c5 .pre .1) in
     omega arith
 
-part-read-shown-end : tie.Need-part-read-shown-end
-part-read-shown-end c =
+part-read-iprp-content-end : tie.Need-part-read-iprp-content-end
+part-read-iprp-content-end c =
     let c5 = c .before .before .before .before .before in
     let h = iprp-within (c5 .args .s .now) (c5 .args .at) _ (c5 .pre .0) (c5 .pre .1) in
     omega arith
 
-read-shown-requires : tie.Need-read-shown-requires
-read-shown-requires c κs =
+read-iprp-content-requires : tie.Need-read-iprp-content-requires
+read-iprp-content-requires c κs =
     let c7 = c .before .before .before .before .before .before .before in
     let a = c7 .args in
     let p = c7 .pre in
@@ -56,8 +56,9 @@ read-last-requires c κs =
     let a = c15 .args in
     let p = c15 .pre in
     let o = iprp-on (a .s .now) (a .at) _ (p .0) (a .n) (p .4 .0) (p .4 .1) (p .4 .2) _ (p .4 .3) _ refl _ _
-    (sym (c7 .read-shown .ensures .0) ∙ c3 .t2 .given .1) _ (c7 .read-shown .ensures .1) (a .extents) (p .4 .4) 0 in
-    (p .0, p .1, omega (arith, c7 .read-shown .ensures .1 .kept .same-length, p .2), p .3, (_, (p .4 .2), o .1))
+    (sym (c7 .read-iprp-content .ensures .0) ∙ c3 .t2 .given .1) _ (c7 .read-iprp-content .ensures .1) (a .extents)
+    (p .4 .4) 0 in
+    (p .0, p .1, omega (arith, c7 .read-iprp-content .ensures .1 .kept .same-length, p .2), p .3, (_, (p .4 .2), o .1))
 
 returns : tie.Need-returns
 returns c =
@@ -65,8 +66,8 @@ returns c =
     let c13 = c5 .before .before .before .before .before .before .before .before in
     let a = c13 .args in (
       (λ is ls x b e. iprp-gone (a .s .now) (a .at) _ (c13 .pre .0) (a .n) is ls x _ b _ refl (a .total) (a .primary .0)
-          _ (sym (c5 .read-shown .ensures .0) ∙ c .before .t .given .1) _),
-      (c5 .read-shown .ensures .1 .kept, λ i e q. no-reading _ i e q),
+          _ (sym (c5 .read-iprp-content .ensures .0) ∙ c .before .t .given .1) _),
+      (c5 .read-iprp-content .ensures .1 .kept, λ i e q. no-reading _ i e q),
     )
 
 returns-2 : tie.Need-returns-2
@@ -76,11 +77,11 @@ returns-2 c =
     let c20 = c12 .before .before .before .before .before .before .before .before in
     let a = c20 .args in (
       (λ is ls x b e. let o = iprp-on (a .s .now) (a .at) _ (c20 .pre .0) (a .n) is ls x _ b _ refl _ _
-          (sym (c12 .read-shown .ensures .0) ∙ c8 .t2 .given .1) _ (c12 .read-shown .ensures .1) (a .extents) e
-          (a .primary .0) in after-same (a .s .now) (a .at) (a .total) _ _ _ x _ (o .2)
+          (sym (c12 .read-iprp-content .ensures .0) ∙ c8 .t2 .given .1) _ (c12 .read-iprp-content .ensures .1)
+          (a .extents) e (a .primary .0) in after-same (a .s .now) (a .at) (a .total) _ _ _ x _ (o .2)
           (c4 .read-last .ensures .0 _ x (o .1))),
       (
-        kept-on _ _ _ (c12 .read-shown .ensures .1 .kept)
+        kept-on _ _ _ (c12 .read-iprp-content .ensures .1 .kept)
             (c4 .read-last .ensures .1 .0),
         c4 .read-last .ensures .1 .1,
       ),
@@ -88,6 +89,6 @@ returns-2 c =
 
 pub read-iprp-spec : {M : Type 1} → statement M
 read-iprp-spec =
-    tie.close (tie.spec (search needs) add-place add-base sub-read-shown part-read-shown-start part-read-shown-end
-    read-shown-requires (search needs) (search needs) read-last-requires (search needs) returns (search needs)
-    (search needs) returns-2)
+    tie.close (tie.spec (search needs) add-place add-base sub-read-iprp-content part-read-iprp-content-start
+    part-read-iprp-content-end read-iprp-content-requires (search needs) (search needs) read-last-requires
+    (search needs) returns (search needs) (search needs) returns-2)

@@ -4,7 +4,7 @@ use native.Mathlib.Omega.{arith}
 use mathlib.Core.Path.{_≡_, sym, ap, _∙_}
 use borrow.Author.Count.{below-more}
 use lib.ListN.{getD}
-use Rattle.records.specs.Rows.{idAt}
+use Rattle.records.specs.inner.Rows.{idAt}
 use borrow.Author.Needs.{needs}
 use Rattle.records.proofs.row_searched.Statement.{statement}
 use Rattle.records.proofs.row_searched.Tie as tie

@@ -1,6 +1,6 @@
 -- `references::put_reference` meets its contract. Assumes nothing.
 use mathlib.Core.Path.{refl, sym, _∙_, subst}
-use Rattle.records.specs.Rows.{FoundIs}
+use Rattle.records.specs.inner.Rows.{FoundIs}
 use Rattle.records.proofs.IdLaws.{found-row}
 use Rattle.records.proofs.KeptLaws.{kept-same}
 use Rattle.references.proofs.PutLaws.{put-source-cut, put-source-unlisted, put-source-twice, source-fresh}

@@ -1,7 +1,7 @@
 -- `references::put_targets` meets its contract. Assumes nothing.
 use Prim.Native.Nat.{_-_}
 use mathlib.Core.Path.{subst}
-use Rattle.records.specs.Rows.{FoundIs}
+use Rattle.records.specs.inner.Rows.{FoundIs}
 use Rattle.records.specs.declared.FoundRow.the-variants.{At}
 use Rattle.records.proofs.IdLaws.{found-row}
 use Rattle.references.proofs.TargetLaws.{So, begin, so-length, cut, unlisted, listed, left-over, done}

@@ -12,8 +12,8 @@ use Rattle.pictures.specs.declared.Size.{Size}
 use Rattle.pictures.specs.Scene.{pictureAt, sameSize, allSize}
 use Rattle.rules.specs.Joined.{targetsOf, itemAt}
 use Rattle.rules.specs.Derivations.{sceneOf}
-use Rattle.views.specs.View.{idOf}
-use Rattle.sizing.specs.Drawn.{Drawn}
+use Rattle.views.specs.inner.View.{idOf}
+use Rattle.sizing.specs.inner.Drawn.{Drawn}
 use Rattle.sizing.proofs.SizesLaws.{size-other, size-more, size-all, inputs-many, input-size}
 use native.Mathlib.Omega.{arith}
 use borrow.Author.Needs.{needs}

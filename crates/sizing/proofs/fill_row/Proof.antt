@@ -2,7 +2,7 @@
 use native.Mathlib.Omega.{arith}
 use mathlib.Core.Path.{refl}
 use borrow.Author.Needs.{needs}
-use Rattle.views.specs.View.{idOf}
+use Rattle.views.specs.inner.View.{idOf}
 use Rattle.declared.specs.declared.SizesRead.the-variants.{Are, Wrong}
 use Rattle.declared.proofs.ToldLaws.{says}
 use Rattle.sizing.proofs.FillLaws.{sizes-drawn, sizes-opaque, sizes-past}

@@ -3,7 +3,7 @@ use native.Mathlib.Omega.{arith}
 use Prim.Native.Nat.{_≤_}
 use mathlib.Core.Path.{sym, _∙_}
 use lib.ListN.{length}
-use Rattle.needed.specs.Marked.{markedOf}
+use Rattle.needed.specs.inner.Marked.{markedOf}
 use Rattle.sourced.proofs.SourcesLaws.{sources-off, sources-over, sources-fit}
 use borrow.Author.Needs.{needs}
 use Rattle.sourced.proofs.sources_in.Statement.{statement}

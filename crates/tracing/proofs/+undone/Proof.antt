@@ -2,7 +2,7 @@
 use mathlib.Core.Path.{sym, _∙_}
 use lib.ListN.{length}
 use Rattle.rules.specs.Joined.{associationsOf, boxesOf}
-use Rattle.views.specs.View.{idOf}
+use Rattle.views.specs.inner.View.{idOf}
 use Rattle.declared.proofs.NamedLaws.{boxes-many}
 use Rattle.tracing.proofs.UndoneLaws.{undone-none, undone-skip, undone-read}
 use native.Mathlib.Omega.{arith}

@@ -1,5 +1,5 @@
 -- `tracing::input_row` meets its contract: each target is listed. Assumes nothing.
-use Rattle.views.specs.View.{idOf}
+use Rattle.views.specs.inner.View.{idOf}
 use Rattle.tracing.proofs.InputLaws.{target-found, target-there}
 use borrow.Author.Needs.{needs}
 use Rattle.tracing.proofs.input_row.Statement.{statement}

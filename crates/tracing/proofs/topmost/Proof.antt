@@ -15,9 +15,9 @@ use Rattle.pictures.specs.Scene.{pictureAt}
 use Rattle.pictures.specs.Trace.{layerAt, blank}
 use Rattle.rules.specs.Joined.{targetsOf, itemAt}
 use Rattle.rules.specs.Derivations.{sceneOf}
-use Rattle.views.specs.View.{idOf}
+use Rattle.views.specs.inner.View.{idOf}
 use Rattle.pictures.proofs.GridLaws.{four-at-most}
-use Rattle.tracing.specs.Told.{Shown}
+use Rattle.tracing.specs.inner.Told.{Shown}
 use Rattle.tracing.proofs.LayerLaws.{layer-none, offset-in, overlay-all, overlay-on, overlay-off}
 use Rattle.tracing.proofs.topmost.Statement.{statement}
 use Rattle.tracing.proofs.topmost.Tie as tie

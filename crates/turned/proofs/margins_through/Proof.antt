@@ -7,7 +7,7 @@ use Rattle.contents.specs.File.{File}
 use Rattle.pictures.specs.Decode.{turnsOf}
 use Rattle.rules.specs.Joined.{associationsOf, boxesOf}
 use Rattle.rules.specs.Places.{Places}
-use Rattle.views.specs.View.{TableOf, idOf}
+use Rattle.views.specs.inner.View.{TableOf, idOf}
 use Rattle.declared.proofs.NamedLaws.{boxes-many}
 use Rattle.turned.proofs.TurnsLaws.{Leads, leads-next, leads-on, leads-none}
 use borrow.Author.Needs.{needs}

@@ -7,10 +7,10 @@ use Rattle.contents.specs.File.{File}
 use Rattle.pictures.specs.Decode.{turnsOf}
 use Rattle.rules.specs.Joined.{associationsOf, boxesOf}
 use Rattle.rules.specs.Places.{Places}
-use Rattle.views.specs.View.{TableOf, idOf}
+use Rattle.views.specs.inner.View.{TableOf, idOf}
 use Rattle.declared.proofs.NamedLaws.{boxes-many}
-use Rattle.layout.specs.Pose.{composedOf}
-use Rattle.turned.specs.Turns.{posed}
+use Rattle.layout.specs.inner.Pose.{composedOf}
+use Rattle.turned.specs.inner.Turns.{posed}
 use Rattle.turned.proofs.TurnsLaws.{posed-below, posed-next, posed-none}
 use borrow.Author.Needs.{needs}
 use Rattle.turned.proofs.pose_within.Statement.{statement}

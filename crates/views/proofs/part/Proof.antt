@@ -16,4 +16,5 @@ returns-2 c = (
 pub part-spec : {M : Type 1} → statement M
 part-spec =
     tie.close (tie.spec (search needs) (search needs) (search needs) (search needs) (search needs)
-    (λ c. (λ h. rw add-sub-cancel-left, (λ h. absurd (omega arith), λ h. (refl, omega arith)))) (search needs) returns-2)
+    (λ c. (λ h. rw add-sub-cancel-left, (λ h. absurd (omega arith), λ h. (refl, omega arith)))) (search needs)
+    returns-2)

@@ -1,7 +1,7 @@
 -- `words::is_printable` answers `printable`.
 use borrow.Author.Tests.{lt-ltb, le-ltb}
 use Rattle.fields.specs.Choice.{pick}
-use Rattle.words.specs.Subject.{printable}
+use Rattle.words.specs.inner.Subject.{printable}
 use Rattle.words.proofs.is_printable.Statement.{statement}
 use Rattle.words.proofs.is_printable.Tie as tie
 

@@ -1,7 +1,7 @@
 -- `words::is_text` answers `text`: the first byte that does not show, or the last, decides.
 use borrow.Author.Needs.{needs}
 use borrow.Author.Tests.{not-true, not-false}
-use Rattle.words.specs.Subject.{text}
+use Rattle.words.specs.inner.Subject.{text}
 use Rattle.words.proofs.is_text.Statement.{statement}
 use Rattle.words.proofs.is_text.Tie as tie
 

@@ -2,7 +2,7 @@
 use mathlib.Core.Path.{sym, _∙_}
 use borrow.Author.Needs.{needs}
 use Rattle.fields.proofs.FieldLaws.{pick-yes, pick-no}
-use Rattle.words.specs.Subject.{kindOf}
+use Rattle.words.specs.inner.Subject.{kindOf}
 use Rattle.words.proofs.place_kind.Statement.{statement}
 use Rattle.words.proofs.place_kind.Tie as tie
 

@@ -1,6 +1,6 @@
 -- `canvas::scale_of` meets its contract. Assumes nothing.
 use native.Mathlib.Omega.{arith}
-use Rattle.canvas.specs.Scale.{scaleOf}
+use Rattle.canvas.specs.inner.Scale.{scaleOf}
 use borrow.Author.Needs.{needs}
 use Rattle.canvas.proofs.page.scale_of.Statement.{statement}
 use Rattle.canvas.proofs.page.scale_of.Tie as tie

@@ -1,6 +1,6 @@
 -- `layout::cropped` meets its contract. Assumes nothing.
 use native.Mathlib.Omega.{arith}
-use Rattle.layout.specs.Margins.{marginsAfter}
+use Rattle.layout.specs.inner.Margins.{marginsAfter}
 use borrow.Author.Needs.{needs}
 use Rattle.layout.proofs.margins.cropped.Statement.{statement}
 use Rattle.layout.proofs.margins.cropped.Tie as tie

@@ -1,7 +1,7 @@
 -- `layout::margins_after` meets its contract. Assumes nothing.
 use mathlib.Core.Path.{sym, subst, ap, _∙_}
 use Rattle.pictures.specs.Turn.{Fits}
-use Rattle.layout.specs.Margins.{marginsAfter}
+use Rattle.layout.specs.inner.Margins.{marginsAfter}
 use borrow.Author.Needs.{needs}
 use Rattle.layout.proofs.margins.margins_after.Statement.{statement}
 use Rattle.layout.proofs.margins.margins_after.Tie as tie

@@ -2,7 +2,7 @@
 use mathlib.Core.Path.{sym, _∙_}
 use native.Mathlib.Omega.{arith}
 use Rattle.fields.proofs.FieldLaws.{pick-yes, pick-no}
-use Rattle.layout.specs.Part.{acrossOf}
+use Rattle.layout.specs.inner.Part.{acrossOf}
 use borrow.Author.Needs.{needs}
 use Rattle.layout.proofs.part.across_of.Statement.{statement}
 use Rattle.layout.proofs.part.across_of.Tie as tie

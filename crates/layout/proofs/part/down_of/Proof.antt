@@ -2,7 +2,7 @@
 use mathlib.Core.Path.{sym, _∙_}
 use native.Mathlib.Omega.{arith}
 use Rattle.fields.proofs.FieldLaws.{pick-yes, pick-no}
-use Rattle.layout.specs.Part.{downOf}
+use Rattle.layout.specs.inner.Part.{downOf}
 use borrow.Author.Needs.{needs}
 use Rattle.layout.proofs.part.down_of.Statement.{statement}
 use Rattle.layout.proofs.part.down_of.Tie as tie

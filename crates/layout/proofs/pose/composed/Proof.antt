@@ -2,7 +2,7 @@
 use mathlib.Core.Path.{sym}
 use Rattle.fields.proofs.FieldLaws.{pick-yes, pick-no}
 use borrow.Author.Tests.{lt-ltb, le-ltb}
-use Rattle.layout.specs.Pose.{composedOf}
+use Rattle.layout.specs.inner.Pose.{composedOf}
 use borrow.Author.Needs.{needs}
 use Rattle.layout.proofs.pose.composed.Statement.{statement}
 use Rattle.layout.proofs.pose.composed.Tie as tie

@@ -1,5 +1,5 @@
 -- `layout::pose_of` meets its contract. Assumes nothing.
-use Rattle.layout.specs.Pose.{poseOf}
+use Rattle.layout.specs.inner.Pose.{poseOf}
 use borrow.Author.Needs.{needs}
 use Rattle.layout.proofs.pose.pose_of.Statement.{statement}
 use Rattle.layout.proofs.pose.pose_of.Tie as tie

@@ -3,7 +3,7 @@ use mathlib.Core.Path.{sym}
 use Rattle.fields.proofs.FieldLaws.{pick-yes, pick-no}
 use borrow.Author.Tests.{lt-ltb, le-ltb}
 use borrow.Author.Needs.{needs}
-use Rattle.layout.specs.Pose.{uprightOf}
+use Rattle.layout.specs.inner.Pose.{uprightOf}
 use Rattle.layout.proofs.pose.upright.Statement.{statement}
 use Rattle.layout.proofs.pose.upright.Tie as tie
 

@@ -1,0 +1,3 @@
+pub mod GoodScene
+pub mod Steps
+pub mod Told
