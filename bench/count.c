@@ -31,7 +31,29 @@ struct question {
     unsigned item, x, y;
 };
 
-static const char *const questions[] = {"verdict", "size", "trace", "sources"};
+static const char *const questions[] = {"verdict", "size", "trace", "sources", "points"};
+
+/* Points are asked of these: 512 along the line from the first pixel to the last. */
+enum { POINTS = 512, POINT_WORDS = 9 };
+static const char *const seams[] = {"phone-48", "fullest", "shared-deep"};
+static _Alignas(64) uint32_t points[POINTS * POINT_WORDS];
+
+static int has_seam(const char *name)
+{
+    for (size_t k = 0; k < sizeof seams / sizeof *seams; k++)
+        if (!strcmp(name, seams[k]))
+            return 1;
+    return 0;
+}
+
+static void lay_seam(const struct question *q)
+{
+    second_size(head, q->length, q->length, table, WORDS, q->item, out);
+    for (uint64_t k = 0; k < POINTS; k++) {
+        points[k * POINT_WORDS] = (uint32_t)((out[4] - 1) * k / (POINTS - 1));
+        points[k * POINT_WORDS + 1] = (uint32_t)((out[5] - 1) * k / (POINTS - 1));
+    }
+}
 
 static void ask_proved(int which, const struct question *q)
 {
@@ -39,6 +61,7 @@ static void ask_proved(int which, const struct question *q)
     case 0: still_verdict(head, q->length, q->length, table, WORDS, out); break;
     case 1: still_size(head, q->length, q->length, table, WORDS, q->item, out); break;
     case 2: still_trace(head, q->length, q->length, table, WORDS, q->item, q->x, q->y, out); break;
+    case 4: still_points(head, q->length, q->length, table, WORDS, q->item, points, POINTS, out); break;
     default: still_sources(head, q->length, q->length, table, WORDS, q->item, list, 256, out); break;
     }
 }
@@ -49,6 +72,7 @@ static void ask_second(int which, const struct question *q)
     case 0: second_verdict(head, q->length, q->length, table, WORDS, out); break;
     case 1: second_size(head, q->length, q->length, table, WORDS, q->item, out); break;
     case 2: second_trace(head, q->length, q->length, table, WORDS, q->item, q->x, q->y, out); break;
+    case 4: second_points(head, q->length, q->length, table, WORDS, q->item, points, POINTS, out); break;
     default: second_sources(head, q->length, q->length, table, WORDS, q->item, list, 256, out); break;
     }
 }
@@ -75,7 +99,9 @@ static void say(const char *who, const char *question, const char *name)
 
 static void count_reader(const char *who, void (*ask)(int, const struct question *), const struct question *q)
 {
-    for (int which = 0; which < 4; which++) {
+    int asked = has_seam(q->name) ? 5 : 4;
+    lay_seam(q);
+    for (int which = 0; which < asked; which++) {
         ask(which, q);
         begin_count();
         ask(which, q);

@@ -10,6 +10,7 @@ import re
 import sys
 
 QUESTIONS = ["verdict", "size", "trace", "sources"]
+POINTS = 512
 SIZES = [16, 32, 64, 128, 256]
 ORDERS = ["rising", "falling", "shuffled"]
 SAID = {
@@ -101,15 +102,23 @@ class Results:
     def libheif(self, name):
         return self.counts.get(f"libheif open {name}")
 
+    def seams(self):
+        """The files that were asked for points."""
+        return [name for name in self.cases if f"proved points {name}" in self.counts]
+
+    def share(self, who, name):
+        """What a point costs beside opening the file."""
+        return (who("points", name) - who("verdict", name)) / POINTS
+
     def verdict(self, name):
         answer = self.answers[f"second verdict {name}"]
         return "accepted" if answer[0] == "0" else f"refused {answer[0]}"
 
     def disagreements(self):
+        asked = [(question, name) for name in self.cases for question in QUESTIONS] + [("points", name) for name in self.seams()]
         return [
             (question, name)
-            for name in self.cases
-            for question in QUESTIONS
+            for question, name in asked
             if self.answers[f"proved {question} {name}"] != self.answers[f"second {question} {name}"]
         ]
 
@@ -170,7 +179,19 @@ def aims(results):
     for order in ORDERS:
         a, b = results.proved("verdict", f"growth-{order}-128"), results.proved("verdict", f"growth-{order}-256")
         text += aim(f"twice the items at most 2.2 times the cost, {order} IDs: {b / a:.2f} times", b <= 2.2 * a)
-    return text + "\n"
+    return text + point_aims(results) + "\n"
+
+
+def point_aims(results):
+    text = ""
+    for name in results.seams():
+        ratio = results.proved("points", name) / results.second("points", name)
+        kept, told = ratio <= 1.2, f"{ratio:.2f} times the second reading, at most 1.2 wanted"
+        if name == "phone-48":
+            share = results.share(results.proved, name)
+            kept, told = kept and share <= 400, f"the verdict and {share:.0f} instructions a point, at most 400 wanted; {told}"
+        text += aim(f"{POINTS} points of {name}: {told}", kept)
+    return text
 
 
 def main_table(results, names):
@@ -189,6 +210,22 @@ def main_table(results, names):
             cells.append("-")
         rows.append(cells)
     return table(["file", "bytes", "verdict is"] + QUESTIONS + ["a byte", "libheif opens"], rows)
+
+
+def points_table(results):
+    """512 points at once beside the verdict, one trace, and as many single traces."""
+    rows = []
+    for name in results.seams():
+        cells = [f"{name}<br>{SAID.get(name, '')}"]
+        for question in ("verdict", "trace", "points"):
+            p, s = results.proved(question, name), results.second(question, name)
+            cells.append(f"{p:,}<br>{s:,}<br>{p / s:.2f}")
+        p, s = results.share(results.proved, name), results.share(results.second, name)
+        cells.append(f"{p:,.0f}<br>{s:,.0f}<br>{p / s:.2f}")
+        single = POINTS * results.proved("trace", name)
+        cells.append(f"{single:,}<br>{single / results.proved('points', name):.1f} times")
+        rows.append(cells)
+    return table(["file", "verdict", "one trace", f"{POINTS} points", "a point's share", f"{POINTS} single traces"], rows)
 
 
 def growth_table(results):
@@ -291,6 +328,8 @@ def main():
     text += "## Aims\n\n" + aims(results)
     names = [name for name in results.cases if not name.startswith("growth")]
     text += "## Files\n\n" + main_table(results, names)
+    text += f"## {POINTS} points at once\n\nAlong the line from the first pixel to the last. A point's share is what the call takes over the verdict, parted by {POINTS}.\n\n"
+    text += points_table(results)
     text += "## Growth\n\nVerdict on a grid in one row. ![growth](growth.svg)\n\n" + growth_table(results)
     text += "## Where the proved library is the slower one\n\n" + profile_table(results)
     (out / "RESULTS.md").write_text(text)

@@ -1,4 +1,4 @@
-/* The still reader's seven questions, for C and C++. Link libstill_c.a, which `rt staticlib still_c` writes to target/staticlib/
+/* The still reader's eight questions, for C and C++. Link libstill_c.a, which `rt staticlib still_c` writes to target/staticlib/
  * (x86-64 Linux; it needs only memcpy and memset). examples/ask_still.c shows a whole program.
  *
  * What a caller lends (still_transforms reads no file and is lent out alone):
@@ -10,12 +10,13 @@
  * leads to as many elements as its length says, aligned for its type, writable except for the head, and no two of them overlap. Where a length
  * is 0 the pointer is not followed and may be null; out may not.
  * Nothing is kept between calls, nothing is allocated, and every call ends; how much stack a call may take is told
- * below (STILL_STACK_; measured by tests/stack, not proved). Threads may call at once if each lends its own table, list and out.
+ * below (STILL_STACK_; measured by tests/stack, not proved). Threads may call at once if each lends its own table, list,
+ * points and out.
  *
  * What every call leaves:
  *   out[0], out[1]    the refusal's number and place, and the rest of out 0; or 0 and 0, then the answer's values as told below, and the rest 0
- *   table             after refusal 1 as it was; after 2 to 20 its first STILL_TABLE_WORDS words are 0; otherwise, 21 to 26 too, they are
- *                     the file's. Words behind them are never written.
+ *   table             after refusal 1 as it was; after 2 to 20 its first STILL_TABLE_WORDS words are 0; otherwise, 21 to 26 and 28
+ *                     too, they are the file's. Words behind them are never written.
  */
 #ifndef STILL_H
 #define STILL_H
@@ -27,7 +28,12 @@
 #define STILL_TABLE_WORDS 11280
 #define STILL_HEAD_MAX 65536
 
-/* Bytes of stack that a call was seen to take at most, rounded up. A trace takes most where an item has 254 turns or crops: 58,544. */
+/* Points that one call of still_points answers at most, and the numbers of a point's record. */
+#define STILL_MAX_POINTS 512
+#define STILL_POINT_WORDS 9
+
+/* Bytes of stack that a call was seen to take at most, rounded up. A trace, and points with it, takes most where an item has
+ * 254 turns or crops: 60,848. */
 #define STILL_STACK_TRACE 64000
 #define STILL_STACK_SOURCES 20000
 #define STILL_STACK_OTHERS 16000
@@ -40,7 +46,7 @@
 #define STILL_MAX_EXTENTS 512
 
 /* out[0]. The place, out[1], is 0 for 1, 2, 4, 5 and 27; for 3 and 6 to 11 where the box begins in the head; for 12 to 20 the item's ID; for
- * 21 to 26 the ID that was asked for. */
+ * 21 to 26 and 28 the ID that was asked for. */
 enum still_refusal {
     STILL_ACCEPTED = 0,
     STILL_TABLE_TOO_SHORT = 1,       /* the table that was lent is too short */
@@ -69,10 +75,11 @@ enum still_refusal {
     STILL_LIST_TOO_SHORT = 24,       /* the list that was lent is too short */
     STILL_NO_SUCH_PROPERTY = 25,     /* the item has no property with that number */
     STILL_HAS_A_CROP = 26,           /* the item has a crop, which no orientation says */
-    STILL_NO_ORIENTATION = 27        /* an orientation is one of 1 to 8; no file was read */
+    STILL_NO_ORIENTATION = 27,       /* an orientation is one of 1 to 8; no file was read */
+    STILL_TOO_MANY_POINTS = 28       /* more than 512 points were asked for at once */
 };
 
-/* out[2] of still_trace */
+/* out[2] of still_trace, and the fifth number of a point's record */
 enum still_end { STILL_PIXEL = 1, STILL_FILL = 2 };
 
 /* out[3] and out[5] of still_transforms */
@@ -94,6 +101,15 @@ void still_size(const uint8_t *head, size_t head_len, uint64_t total, uint32_t *
  * out[3] that item's ID; out[4], out[5] x and y there; out[6] how many items were passed, both ends counted. */
 void still_trace(const uint8_t *head, size_t head_len, uint64_t total, uint32_t *table, size_t table_len, uint32_t item, uint32_t x,
                  uint32_t y, uint64_t out[STILL_OUT]);
+
+/* Many output pixels of one item at once: the file is read once, and each point is answered as still_trace would answer it. points leads to
+ * points_len records of STILL_POINT_WORDS numbers; points_len counts records, not numbers. A record's first two numbers, x and y, are read and
+ * stay; the other seven are written: the refusal's number and place, then STILL_PIXEL or STILL_FILL, that item's ID, x and y there, and how
+ * many items were passed. Number and place are 0 where the point is answered. A point outside the picture has 23 and the asked ID in its own
+ * record, then five times 0, and the others are still answered. out[2] how many records were filled: all. More than STILL_MAX_POINTS records are
+ * refused by 28 after 21 and 22; a refusal in out[0] writes to no record. */
+void still_points(const uint8_t *head, size_t head_len, uint64_t total, uint32_t *table, size_t table_len, uint32_t item, uint32_t *points,
+                  size_t points_len, uint64_t out[STILL_OUT]);
 
 /* The IDs of all coded items that an item needs, each once, in table order; a coded item lists itself. out[2] how many were written to the
  * list's first entries; the others stay as they were, and a refusal writes none. */

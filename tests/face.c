@@ -1,4 +1,4 @@
-/* face FILE: what a caller from C may lend, on a file whose primary item 2 needs item 1: null pointers with length 0, a table that is too short, and words and entries behind what is written. */
+/* face FILE: what a caller from C may lend, on a file whose primary item 2 needs item 1: null pointers with length 0, a table that is too short, and words, entries and records behind what is written. */
 #include <stdio.h>
 #include <string.h>
 
@@ -9,6 +9,7 @@
 static uint8_t head[STILL_HEAD_MAX];
 static uint32_t table[TABLE];
 static uint32_t list[4];
+static uint32_t points[STILL_MAX_POINTS + 2][STILL_POINT_WORDS];
 static uint64_t out[STILL_OUT];
 static int wrong;
 
@@ -65,6 +66,83 @@ static void transforms(void)
     told("transforms of the greatest number", STILL_NO_ORIENTATION, 0, 0, 0);
 }
 
+/* Each record to the single trace of its point: x and y stay, the rest is the answer. */
+static void as_traced(const char *what, size_t n, uint32_t item, uint32_t (*record)[STILL_POINT_WORDS], size_t count)
+{
+    uint64_t one[STILL_OUT];
+    size_t i, k;
+    for (i = 0; i < count; i++) {
+        still_trace(head, n, n, table, TABLE, item, record[i][0], record[i][1], one);
+        for (k = 0; k < STILL_POINT_WORDS - 2; k++) {
+            if (record[i][k + 2] != one[k]) {
+                printf("wrong: %s, record %lu\n", what, (unsigned long)i);
+                wrong = 1;
+                return;
+            }
+        }
+    }
+}
+
+/* The points of a seam from (0, 0) to (513, 513) in a picture of 480 by 640; the rest of each record is spoiled. */
+static void lay_points(void)
+{
+    uint32_t i;
+    memset(points, 9, sizeof points);
+    for (i = 0; i < STILL_MAX_POINTS + 2; i++)
+        points[i][0] = points[i][1] = i;
+}
+
+/* Whether the records from one on are as they were laid. */
+static void untouched(const char *what, uint32_t from)
+{
+    uint32_t i;
+    for (i = from; i < STILL_MAX_POINTS + 2; i++) {
+        if (points[i][0] != i || points[i][1] != i)
+            wrong = 1, printf("wrong: %s, the point of record %u\n", what, (unsigned)i);
+        kept(what, points[i] + 2, STILL_POINT_WORDS - 2, 0x09090909);
+    }
+}
+
+/* Refusals of the whole call: none of them writes to a record. */
+static void points_refused(size_t n)
+{
+    lay_points();
+    still_points(head, n, n, table, TABLE, 2, points[0], STILL_MAX_POINTS + 1, out);
+    told("513 points", STILL_TOO_MANY_POINTS, 2, 0, 0);
+    kept("the table is the file's", table, 1, 2);
+    still_points(head, n, n, table, TABLE, 3, points[0], STILL_MAX_POINTS + 1, out);
+    told("513 points of no item", STILL_NO_SUCH_ITEM, 3, 0, 0);
+    still_points(head, n, n, table, STILL_TABLE_WORDS - 1, 2, points[0], 2, out);
+    told("points, a table of one word less", STILL_TABLE_TOO_SHORT, 0, 0, 0);
+    still_points(head, 200, 200, table, TABLE, 2, points[0], 2, out);
+    told("points of a file cut short", STILL_BAD_BOX_SIZE, 20, 0, 0);
+    kept("a refused file's table", table, STILL_TABLE_WORDS, 0);
+    untouched("a refusal writes to no record", 0);
+}
+
+/* Item 2 is a picture of 480 by 640, so the points from (480, 480) on are outside. */
+static void points_answered(size_t n)
+{
+    static const uint32_t first[STILL_POINT_WORDS] = {0, 0, 0, 0, STILL_PIXEL, 1, 639, 0, 2};
+    static const uint32_t outside[STILL_POINT_WORDS] = {480, 480, STILL_OUTSIDE_THE_PICTURE, 2, 0, 0, 0, 0, 0};
+    lay_points();
+    still_points(head, n, n, table, TABLE, 2, points[0], STILL_MAX_POINTS, out);
+    told("512 points", 0, 0, STILL_MAX_POINTS, 0);
+    if (memcmp(points[0], first, sizeof first) != 0 || memcmp(points[480], outside, sizeof outside) != 0)
+        wrong = 1, printf("wrong: the records of points\n");
+    untouched("records behind the last", STILL_MAX_POINTS);
+    as_traced("a point as a single trace", n, 2, points, STILL_MAX_POINTS);
+    kept("words behind the file's table", table + STILL_TABLE_WORDS, 20, 0x09090909);
+    lay_points();
+    still_points(head, n, n, table, TABLE, 2, points[0], 0, out);
+    told("no points", 0, 0, 0, 0);
+    untouched("no points, no records", 0);
+    still_points(head, n, n, table, TABLE, 2, NULL, 0, out);
+    told("no points and null", 0, 0, 0, 0);
+    still_points(head, n, n, table, TABLE, 3, NULL, 0, out);
+    told("no points of no item", STILL_NO_SUCH_ITEM, 3, 0, 0);
+}
+
 int main(int argc, char **argv)
 {
     FILE *file = argc == 2 ? fopen(argv[1], "rb") : NULL;
@@ -78,6 +156,8 @@ int main(int argc, char **argv)
     told("size, nothing lent", STILL_TABLE_TOO_SHORT, 0, 0, 0);
     still_trace(NULL, 0, 0, NULL, 0, 1, 0, 0, out);
     told("trace, nothing lent", STILL_TABLE_TOO_SHORT, 0, 0, 0);
+    still_points(NULL, 0, 0, NULL, 0, 1, NULL, 0, out);
+    told("points, nothing lent", STILL_TABLE_TOO_SHORT, 0, 0, 0);
     still_sources(NULL, 0, 0, NULL, 0, 1, NULL, 0, out);
     told("sources, nothing lent", STILL_TABLE_TOO_SHORT, 0, 0, 0);
     still_property(NULL, 0, 0, NULL, 0, 1, 1, out);
@@ -112,6 +192,8 @@ int main(int argc, char **argv)
     still_orientation(head, n, n, table, TABLE, 3, out);
     told("orientation of no item", STILL_NO_SUCH_ITEM, 3, 0, 0);
     kept("words behind the file's table", table + STILL_TABLE_WORDS, 20, 0x09090909);
+    points_answered(n);
+    points_refused(n);
     transforms();
     return wrong;
 }

@@ -8,16 +8,16 @@
 
 #include "still.h"
 
-enum { VERDICT, SIZE, TRACE, SOURCES, PROPERTY, ORIENTATION, TRANSFORMS, QUESTIONS, NOTHING = QUESTIONS };
+enum { VERDICT, SIZE, TRACE, POINTS, SOURCES, PROPERTY, ORIENTATION, TRANSFORMS, QUESTIONS, NOTHING = QUESTIONS };
 
-static const char *const NAMES[QUESTIONS] = {"verdict", "size", "trace", "sources", "property", "orientation", "transforms"};
+static const char *const NAMES[QUESTIONS] = {"verdict", "size", "trace", "points", "sources", "property", "orientation", "transforms"};
 static const size_t ROOM = 1u << 20;
 static const unsigned char PAINT = 0xa5;
 
 static unsigned char *stack;
 static uint8_t head[STILL_HEAD_MAX];
 static size_t length;
-static uint32_t table[STILL_TABLE_WORDS], list[STILL_MAX_ITEMS];
+static uint32_t table[STILL_TABLE_WORDS], list[STILL_MAX_ITEMS], points[STILL_MAX_POINTS * STILL_POINT_WORDS];
 static int asked;
 static uint32_t item;
 
@@ -28,6 +28,7 @@ static void *ask(void *nothing)
     case VERDICT: still_verdict(head, length, length, table, STILL_TABLE_WORDS, out); break;
     case SIZE: still_size(head, length, length, table, STILL_TABLE_WORDS, item, out); break;
     case TRACE: still_trace(head, length, length, table, STILL_TABLE_WORDS, item, 0, 0, out); break;
+    case POINTS: still_points(head, length, length, table, STILL_TABLE_WORDS, item, points, STILL_MAX_POINTS, out); break;
     case SOURCES: still_sources(head, length, length, table, STILL_TABLE_WORDS, item, list, STILL_MAX_ITEMS, out); break;
     case PROPERTY: still_property(head, length, length, table, STILL_TABLE_WORDS, item, 1, out); break;
     case ORIENTATION: still_orientation(head, length, length, table, STILL_TABLE_WORDS, item, out); break;

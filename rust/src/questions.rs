@@ -7,6 +7,7 @@ extern "C" {
     fn still_verdict(head: *const u8, head_len: usize, total: u64, table: *mut u32, table_len: usize, out: *mut [u64; OUT]);
     fn still_size(head: *const u8, head_len: usize, total: u64, table: *mut u32, table_len: usize, item: u32, out: *mut [u64; OUT]);
     fn still_trace(head: *const u8, head_len: usize, total: u64, table: *mut u32, table_len: usize, item: u32, x: u32, y: u32, out: *mut [u64; OUT]);
+    fn still_points(head: *const u8, head_len: usize, total: u64, table: *mut u32, table_len: usize, item: u32, points: *mut Point, points_len: usize, out: *mut [u64; OUT]);
     fn still_sources(head: *const u8, head_len: usize, total: u64, table: *mut u32, table_len: usize, item: u32, list: *mut u32, list_len: usize, out: *mut [u64; OUT]);
     fn still_property(head: *const u8, head_len: usize, total: u64, table: *mut u32, table_len: usize, item: u32, k: u32, out: *mut [u64; OUT]);
     fn still_orientation(head: *const u8, head_len: usize, total: u64, table: *mut u32, table_len: usize, item: u32, out: *mut [u64; OUT]);
@@ -26,8 +27,16 @@ macro_rules! ask {
 fn told(out: [u64; OUT]) -> Result<[u64; OUT - 2], Refusal> {
     match out {
         [0, 0, values @ ..] => Ok(values),
-        [number, place, ..] => Err(Refusal { fault: Fault::of(number).expect("every number that the archive gives is a fault's"), place }),
+        [number, place, ..] => Err(refusal(number, place)),
     }
+}
+
+fn refusal(number: u64, place: u64) -> Refusal {
+    Refusal { fault: Fault::of(number).expect("every number that the archive gives is a fault's"), place }
+}
+
+fn trace([end, item, x, y, passed]: [u32; 5]) -> Trace {
+    Trace { end: if end == 1 { End::Pixel } else { End::Fill }, item: ItemId(item), x, y, passed }
 }
 
 /// The item_ID of an item; never its row.
@@ -87,6 +96,46 @@ pub struct Trace {
     pub passed: u32,
 }
 
+/// A point of a picture that is asked for, and room for its answer: the record of nine numbers that the archive fills.
+#[repr(C)]
+#[derive(Clone, Copy, Debug)]
+pub struct Point {
+    pub x: u32,
+    pub y: u32,
+    room: [u32; 7],
+}
+
+impl Point {
+    pub const fn new(x: u32, y: u32) -> Point {
+        Point { x, y, room: [0; 7] }
+    }
+}
+
+/// A point that [`Still::points`] has answered.
+#[repr(transparent)]
+#[derive(Clone, Copy, Debug)]
+pub struct Answer(Point);
+
+impl Answer {
+    /// The x that was asked for.
+    pub fn x(&self) -> u32 {
+        self.0.x
+    }
+
+    /// The y that was asked for.
+    pub fn y(&self) -> u32 {
+        self.0.y
+    }
+
+    /// What [`Still::trace`] says of this point: where it comes from, or that it lies outside the picture.
+    pub fn trace(&self) -> Result<Trace, Refusal> {
+        match self.0.room {
+            [0, 0, end @ ..] => Ok(trace(end)),
+            [number, place, ..] => Err(refusal(number.into(), place.into())),
+        }
+    }
+}
+
 /// A transform by the value that its box holds.
 #[derive(Clone, Copy, Debug, PartialEq, Eq)]
 pub enum Transform {
@@ -123,7 +172,27 @@ impl<'a> Still<'a> {
     /// Where the output pixel (x, y) of an item comes from.
     pub fn trace(self, table: &mut Table, item: ItemId, x: u32, y: u32) -> Result<Trace, Refusal> {
         let [end, item, x, y, passed, _] = ask!(still_trace, self, table, item.0, x, y)?.map(|n| n as u32);
-        Ok(Trace { end: if end == 1 { End::Pixel } else { End::Fill }, item: ItemId(item), x, y, passed })
+        Ok(trace([end, item, x, y, passed]))
+    }
+
+    /// Many output pixels of an item at once, at most [`MAX_POINTS`](crate::MAX_POINTS): the file is read once, and each point is answered as [`Still::trace`] would answer it.
+    /// The answers are the points that were lent, in their order. A point outside the picture has its refusal in its own answer, and the others are still answered;
+    /// where the whole call is refused nothing is written to the points.
+    ///
+    /// ```no_run
+    /// # use still::{ItemId, Point, Refusal, Still, Table};
+    /// # fn seam(still: Still, table: &mut Table) -> Result<(), Refusal> {
+    /// let mut row: Vec<Point> = (0..480).map(|x| Point::new(x, 20)).collect();
+    /// for answer in still.points(table, ItemId(2), &mut row)? {
+    ///     println!("{} {} {:?}", answer.x(), answer.y(), answer.trace());
+    /// }
+    /// # Ok(())
+    /// # }
+    /// ```
+    pub fn points<'l>(self, table: &mut Table, item: ItemId, points: &'l mut [Point]) -> Result<&'l [Answer], Refusal> {
+        ask!(still_points, self, table, item.0, points.as_mut_ptr(), points.len())?;
+        // SAFETY: an `Answer` is laid out as the `Point` that it holds, and the points stay borrowed as long as the answers.
+        Ok(unsafe { &*(points as *const [Point] as *const [Answer]) })
     }
 
     /// The IDs of all coded items that an item needs, each once, in table order: the front of the list that is lent. A refusal writes nothing to it.

@@ -1,6 +1,6 @@
 //! The questions of crates/answers, with their right answers, through the archive. Digests of tables are not made here: those lines are passed over.
 #![cfg(still_linked)]
-use still::{transforms, End, ItemId, Refusal, Still, Table, Transform};
+use still::{transforms, End, ItemId, Point, Refusal, Still, Table, Trace, Transform};
 
 static QUESTIONS: &[u8] = include_bytes!("../../crates/answers/stdin");
 static ANSWERS: &str = include_str!("../../crates/answers/stdout");
@@ -47,20 +47,37 @@ fn list(transforms: [Option<Transform>; 2]) -> String {
     said.len().to_string() + &said.concat()
 }
 
+fn end(t: Trace) -> String {
+    format!("{} {}", if t.end == End::Pixel { "pixel" } else { "fill" }, numbers(&[t.item.0, t.x, t.y, t.passed]))
+}
+
+fn refusal(r: Refusal) -> String {
+    format!("refused {} {}", r.fault as u8, r.place)
+}
+
+// How many points there are, then the answer of each.
+fn points(still: Still, table: &mut Table, item: ItemId, points: &mut [Point]) -> Result<String, Refusal> {
+    let answers = still.points(table, item, points)?;
+    let said = answers.iter().map(|a| format!(", {}", a.trace().map_or_else(refusal, end)));
+    Ok(answers.len().to_string() + &said.collect::<String>())
+}
+
 // The question and its answer as they stand in a line.
-fn answer(still: Still, table: &mut Table, kind: u32, id: u32, x: u32, y: u32) -> (String, Result<String, Refusal>) {
+fn answer(input: &mut Input, still: Still, table: &mut Table, kind: u32, id: u32, x: u32, y: u32) -> (String, Result<String, Refusal>) {
     let item = ItemId(id);
     match kind {
         0 => ("verdict\t".into(), still.verdict(table).map(|v| numbers(&[v.items, v.primary.0]))),
         2 => (format!("size\t{id}"), still.size(table, item).map(|s| numbers(&[s.wide, s.high, s.output_wide, s.output_high, s.depth]))),
-        3 => (
-            format!("trace\t{id} {x} {y}"),
-            still.trace(table, item, x, y).map(|t| format!("{} {}", if t.end == End::Pixel { "pixel" } else { "fill" }, numbers(&[t.item.0, t.x, t.y, t.passed]))),
-        ),
+        3 => (format!("trace\t{id} {x} {y}"), still.trace(table, item, x, y).map(end)),
         4 => (format!("sources\t{id} {x}"), still.sources(table, item, &mut vec![9; x as usize]).map(numbers)),
         5 => (format!("prop\t{id} {x}"), still.property(table, item, x).map(|p| numbers(&[p.len() as u32, sum_of(p)]))),
         6 => (format!("orientation\t{id}"), still.orientation(table, item).map(|n| n.to_string())),
-        _ => (format!("transforms\t{id}"), transforms(id).map(list)),
+        7 => (format!("transforms\t{id}"), transforms(id).map(list)),
+        _ => {
+            let mut seam: Vec<_> = (0..x).map(|_| Point::new(input.word(), input.word())).collect();
+            let asked: String = seam.iter().map(|p| format!(" {} {}", p.x, p.y)).collect();
+            (format!("points\t{id}{asked}"), points(still, table, item, &mut seam))
+        }
     }
 }
 
@@ -77,8 +94,8 @@ fn all_questions() {
             if kind == 1 {
                 continue;
             }
-            let (question, told) = answer(Still { head, total }, &mut table, kind, id, x, y);
-            let told = told.unwrap_or_else(|r| format!("refused {} {}", r.fault as u8, r.place));
+            let (question, told) = answer(&mut input, Still { head, total }, &mut table, kind, id, x, y);
+            let told = told.unwrap_or_else(refusal);
             assert_eq!(line, format!("{name}\t{total}\t{question}\t{told}"));
         }
     }

@@ -44,4 +44,5 @@ fn limits() {
     defines("MAX_ASSOCIATIONS", still::MAX_ASSOCIATIONS);
     defines("MAX_TARGETS", still::MAX_TARGETS);
     defines("MAX_EXTENTS", still::MAX_EXTENTS);
+    defines("MAX_POINTS", still::MAX_POINTS);
 }

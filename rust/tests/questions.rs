@@ -1,6 +1,6 @@
 //! The questions on a file of two items: a picture of 640 × 480, and a copy of it turned a quarter to the left.
 #![cfg(still_linked)]
-use still::{transforms, End, Fault, ItemId, Refusal, Size, Still, Table, Trace, Transform, Verdict, TABLE_WORDS};
+use still::{transforms, End, Fault, ItemId, Point, Refusal, Size, Still, Table, Trace, Transform, Verdict, MAX_POINTS, TABLE_WORDS};
 
 static FILE: &[u8] = include_bytes!("../../crates/listing/stdin");
 // README's example: item 9 has a crop, item 8 is turned to the right and then mirrored.
@@ -23,6 +23,36 @@ fn the_answers() {
     assert_eq!(still.property(&mut table, turned, 2), Ok(&b"\0\0\0\x09irot\x01"[..]));
     assert_eq!(still.orientation(&mut table, turned), Ok(8));
     assert_eq!(still.orientation(&mut table, ItemId(1)), Ok(1));
+}
+
+#[test]
+fn points_are_answered_as_single_traces() {
+    // A picture of 480 × 640: the points from (480, 480) on are outside.
+    let (still, mut table, turned) = (Still::of(FILE), Table::new(), ItemId(2));
+    let mut seam: Vec<Point> = (0..MAX_POINTS as u32).map(|k| Point::new(k, k)).collect();
+    let answers = still.points(&mut table, turned, &mut seam).unwrap().to_vec();
+    assert_eq!(table.words()[..6], [2, 2, 3, 1, 1, 2]);
+    assert_eq!(answers.len(), MAX_POINTS);
+    assert_eq!(answers[10].trace(), Ok(Trace { end: End::Pixel, item: ItemId(1), x: 629, y: 10, passed: 2 }));
+    assert_eq!(answers[480].trace(), refused(Fault::OutsideThePicture, 2));
+    for (k, answer) in (0..).zip(&answers) {
+        assert_eq!((answer.x(), answer.y()), (k, k));
+        assert_eq!(answer.trace(), still.trace(&mut table, turned, k, k), "{k}");
+    }
+}
+
+#[test]
+fn no_points_and_too_many() {
+    let (still, mut table) = (Still::of(FILE), Table::new());
+    assert_eq!(still.points(&mut table, ItemId(2), &mut []).unwrap().len(), 0);
+    let mut seam = [Point::new(7, 8); MAX_POINTS + 1];
+    let before = format!("{seam:?}");
+    assert_eq!(still.points(&mut table, ItemId(2), &mut seam).unwrap_err(), Refusal { fault: Fault::TooManyPoints, place: 2 });
+    assert_eq!(table.words()[5], 2, "the table is the file's");
+    assert_eq!(still.points(&mut table, ItemId(3), &mut seam).unwrap_err(), Refusal { fault: Fault::NoSuchItem, place: 3 });
+    assert_eq!(Still::of(&[]).points(&mut table, ItemId(2), &mut seam).unwrap_err(), Refusal { fault: Fault::NotAStill, place: 0 });
+    assert_eq!(format!("{seam:?}"), before, "a refusal writes to no point");
+    assert_eq!(still.points(&mut table, ItemId(2), &mut seam[1..]).unwrap().len(), MAX_POINTS);
 }
 
 #[test]

@@ -4,7 +4,7 @@
 #define LEVEL_H
 
 #ifndef LEVEL
-#define LEVEL 3
+#define LEVEL 4
 #endif
 
 #endif

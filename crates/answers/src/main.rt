@@ -1,9 +1,11 @@
 // Answers questions about many heads: reads them from standard input and prints a line for each, as in the files with the right answers.
 // The input: how many heads (4 bytes); for each its name (length in 4 bytes, then the letters), the file's total (8),
 // its bytes (length in 4, then the bytes), how many questions (4); for each question its kind (4: 0 verdict, 1 table, 2
-// size, 3 trace, 4 sources, 5 property, 6 orientation, 7 transforms), an item ID, or the orientation for 7 (4), and two
-// numbers (4 each).
+// size, 3 trace, 4 sources, 5 property, 6 orientation, 7 transforms, 8 points), an item ID, or the orientation for 7 (4),
+// and two numbers (4 each); for 8 the first is how many points, and x and y of each follow (4 each).
 // The table is never cleared between calls, and has 20 words more than it needs.
+mod points;
+
 ghost use mathlib.Core.Path.{_≡_};
 ghost use Prim.Native.Nat.{_<_};
 ghost use lib.ListN.{length};
@@ -18,12 +20,12 @@ use sourced::Listed;
 use table::ItemId;
 use traced::Traced;
 
-fn print_more(n: u64) {
+pub fn print_more(n: u64) {
     io::write_all(1, b" ");
     io::print_decimal(1, n);
 }
 
-fn print_refusal(f: Refusal) {
+pub fn print_refusal(f: Refusal) {
     io::write_all(1, b"refused");
     print_more(f.number as u64);
     print_more(f.place);
@@ -261,7 +263,8 @@ fn answer(name: &[u8], head: &[u8], total: u64, table: &mut [u32]) {
         4 => print_sources(head, total, table, id, x),
         5 => print_property(head, total, table, id, x),
         6 => print_orientation(head, total, table, id),
-        _ => print_transforms(id),
+        7 => print_transforms(id),
+        _ => points::print_points(head, total, table, id, x),
     }
 }
 

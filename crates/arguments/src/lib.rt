@@ -71,6 +71,7 @@ pub enum Word {
     Crop,
     Orientation,
     Transforms,
+    Points,
     Unknown,
 }
 
@@ -112,6 +113,9 @@ fn later_word_of(s: &[u8]) -> Word
     if is_word(s, b"transforms") {
         return Word::Transforms;
     }
+    if is_word(s, b"points") {
+        return Word::Points;
+    }
     Word::Unknown
 }
 
@@ -129,6 +133,7 @@ pub fn numbers_of(w: Word) -> usize
         Word::Crop => 1,
         Word::Orientation => 1,
         Word::Transforms => 1,
+        Word::Points => 5,
         Word::Unknown => 0,
     }
 }
@@ -147,6 +152,7 @@ pub fn may_be_alone(w: Word) -> bool
         Word::Crop => false,
         Word::Orientation => true,
         Word::Transforms => false,
+        Word::Points => false,
         Word::Unknown => true,
     }
 }

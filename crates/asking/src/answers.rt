@@ -82,7 +82,7 @@ pub fn print_size(head: &[u8], total: u64, table: &mut [u32], id: u32) {
 }
 
 // An end of a trace: what it is, the item's ID, x, y, items passed.
-fn print_end(kind: &[u8], item: ItemId, x: u32, y: u32, passed: u32) {
+pub fn print_end(kind: &[u8], item: ItemId, x: u32, y: u32, passed: u32) {
     say(1, kind);
     print_field(item.0 as u64);
     print_field(x as u64);

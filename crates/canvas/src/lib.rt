@@ -19,6 +19,7 @@ pub use mark::put_kept;
 pub use mark::put_shut;
 pub use mark::put_under;
 pub use number::put;
+pub use number::put_fraction;
 pub use number::put_kind;
 pub use number::put_number;
 pub use number::put_times;

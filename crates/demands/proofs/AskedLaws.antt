@@ -1,4 +1,4 @@
--- Refusals 21 to 27: what is asked of a good file is refused exactly where the table of document 01 says. Assumes nothing.
+-- Refusals 21 to 28: what is asked of a good file is refused exactly where the documents say. Assumes nothing.
 use Prim.Native.Nat.{ℕ, _-_, _≤_, _<_}
 use native.Mathlib.Omega.{arith}
 use mathlib.Core.Path.{_≡_, refl, sym, ap, subst, _∙_}
@@ -12,7 +12,7 @@ use Rattle.fields.specs.Lists.{member}
 use Rattle.fields.proofs.TestLaws.{untrue, and-both, both-and, and-none}
 use Rattle.boxes.specs.Answer.{Answer, ok, refuse, check, _>>=_, _>>_}
 use Rattle.boxes.specs.Types.{image, clap}
-use Rattle.boxes.proofs.AnswerLaws.{ok-bind, then-ok, ok-then, check-ok, ok-check, ok-inj, bind-assoc, bind-refuse}
+use Rattle.boxes.proofs.AnswerLaws.{ok-bind, bind-ok, then-ok, ok-then, check-ok, ok-check, ok-inj, bind-assoc, bind-refuse}
 use Rattle.contents.specs.Iinf.{Item, idsOf}
 use Rattle.contents.specs.File.{File}
 use Rattle.pictures.specs.declared.Size.{Size}
@@ -24,6 +24,7 @@ use Rattle.rules.specs.Joined.{associationsOf, typesOf, rowOf, itemAt}
 use Rattle.rules.specs.Places.{Places}
 use Rattle.rules.specs.Opening.{listed, pictured}
 use Rattle.questions.specs.Questions.{sizeIn, traceIn, sourcesIn, propertyIn}
+use Rattle.seam.specs.Points.{pointsIn}
 use Rattle.facing.specs.Orientation.{orientationIn, transformsIn}
 use Rattle.demands.specs.Call.{
   IsListed,
@@ -35,6 +36,9 @@ use Rattle.demands.specs.Call.{
   TraceUnmet,
   not-shown,
   outside,
+  PointsUnmet,
+  no-pixels,
+  too-many,
   SourcesUnmet,
   not-derived,
   too-short,
@@ -92,6 +96,14 @@ module _ (f : File) (id : ℕ) where
   unfolding listed
   listed-ok r e = let x = then-ok _ _ r e in (check-ok 21 id _ (x .0) (x .1), ok-inj _ _ (x .2))
 
+  pub pictured-shown : (r : ℕ) → pictured f id ≡ ok r → IsPicture f id
+  unfolding pictured
+  pictured-shown r e =
+      let x = bind-ok _ _ r e in
+      let l = listed-ok (x .0) (x .1) in
+      let y = then-ok _ _ r (x .2) in
+      (l .0, ap (λ (k : ℕ). image (itemAt f k .type)) (l .1) ∙ check-ok 22 id _ (y .0) (y .1))
+
   -- a question of a listed item
   listed-or : {A : Type 0} (k : ℕ → Answer A) (n p : ℕ) → (listed f id >>= k) ≡ refuse n p →
       ((n ≡ 21) × (p ≡ id) × (member id (idsOf (f .items)) ≡ false)) ⊎
@@ -122,6 +134,18 @@ module _ (f : File) (id : ℕ) where
       by (inl x) = inl (unlisted (x .0) (x .2), x .1)
       by (inr x) = next (x .0) (check-bind 22 id _ (rowOf id (f .items)) k n p (x .1))
 
+  -- a picture, then one test
+  picture-then : {A : Type 0} (m : ℕ) (t : ℕ → Bool) (a : ℕ → A) (n p : ℕ) →
+      (pictured f id >>= (λ r. check m id (t r) >> ok (a r))) ≡ refuse n p → (SizeUnmet f id n × (p ≡ id)) ⊎
+      (IsPicture f id × (n ≡ m) × (p ≡ id) × (t (rowOf id (f .items)) ≡ false))
+  picture-then {A} m t a n p e = elim (pictured-or _ n p e) [ inl x ↦ inl x | inr x ↦ by (x .0) (check-then m id _ _ n p (x .1)) ]
+    where
+      by : IsPicture f id → ((n ≡ m) × (p ≡ id) × (t (rowOf id (f .items)) ≡ false)) ⊎
+          ((t (rowOf id (f .items)) ≡ true) × (ok (a (rowOf id (f .items))) ≡ refuse n p)) →
+          (SizeUnmet f id n × (p ≡ id)) ⊎ (IsPicture f id × (n ≡ m) × (p ≡ id) × (t (rowOf id (f .items)) ≡ false))
+      by i (inl x) = inr (i, x .0, x .1, x .2)
+      by i (inr x) = never _ n p (x .1)
+
   -- the questions
   pub size-unmet : (s : Scene) (n p : ℕ) → sizeIn s f id ≡ refuse n p → SizeUnmet f id n × (p ≡ id)
   unfolding sizeIn
@@ -129,7 +153,10 @@ module _ (f : File) (id : ℕ) where
 
   pub trace-unmet : (s : Scene) (q : Point) (n p : ℕ) → traceIn s f id q ≡ refuse n p → TraceUnmet s f id q n × (p ≡ id)
   unfolding traceIn
-  trace-unmet s q n p e = elim (pictured-or _ n p e) [ inl x ↦ (not-shown (x .0), x .1) | inr x ↦ last (x .0) (check-then 23 id _ _ n p (x .1)) ]
+  trace-unmet s q n p e = elim (picture-then 23 _ _ n p e) [
+    | inl x ↦ (not-shown (x .0), x .1)
+    | inr x ↦ (outside (x .1) (x .0) (beyond (x .3)), x .2)
+  ]
     where
       z : Size
       z = outputOf (shownAs s f id)
@@ -137,23 +164,19 @@ module _ (f : File) (id : ℕ) where
       beyond : (ltb (q .x) (z .wide) && ltb (q .y) (z .high)) ≡ false → Inside z q → ⊥
       beyond e i = untrue (sym e ∙ both-and _ _ (lt-ltb _ _ (i .in-x)) (lt-ltb _ _ (i .in-y)))
 
-      last : {A : Type 0} {a : A} → IsPicture f id → ((n ≡ 23) × (p ≡ id) ×
-          ((ltb (q .x) (z .wide) && ltb (q .y) (z .high)) ≡ false)) ⊎
-          (((ltb (q .x) (z .wide) && ltb (q .y) (z .high)) ≡ true) × (ok a ≡ refuse n p)) → TraceUnmet s f id q n ×
-          (p ≡ id)
-      last i (inl x) = (outside (x .0) i (beyond (x .2)), x .1)
-      last i (inr x) = never _ n p (x .1)
+  pub points-unmet : (k n p : ℕ) → pointsIn f id k ≡ refuse n p → PointsUnmet f id k n × (p ≡ id)
+  unfolding pointsIn
+  points-unmet k n p e = elim (picture-then 28 _ _ n p e) [
+    | inl x ↦ (no-pixels (x .0), x .1)
+    | inr x ↦ (too-many (x .1) (x .0) (leb-false k 512 (x .3)), x .2)
+  ]
 
   pub sources-unmet : (s : Scene) (room n p : ℕ) → sourcesIn s f id room ≡ refuse n p → SourcesUnmet s f id room n × (p ≡ id)
   unfolding sourcesIn
-  sources-unmet s room n p e = elim (pictured-or _ n p e) [ inl x ↦ (not-derived (x .0), x .1) | inr x ↦ last (x .0) (check-then 24 id _ _ n p (x .1)) ]
-    where
-      last : {A : Type 0} {a : A} → IsPicture f id →
-          ((n ≡ 24) × (p ≡ id) × (leb (length (sources s (rowOf id (f .items)))) room ≡ false)) ⊎
-          ((leb (length (sources s (rowOf id (f .items)))) room ≡ true) × (ok a ≡ refuse n p)) →
-          SourcesUnmet s f id room n × (p ≡ id)
-      last i (inl x) = (too-short (x .0) i (leb-false _ _ (x .2)), x .1)
-      last i (inr x) = never _ n p (x .1)
+  sources-unmet s room n p e = elim (picture-then 24 _ _ n p e) [
+    | inl x ↦ (not-derived (x .0), x .1)
+    | inr x ↦ (too-short (x .1) (x .0) (leb-false _ _ (x .3)), x .2)
+  ]
 
   pub property-unmet : (pl : Places) (k n p : ℕ) → propertyIn pl f id k ≡ refuse n p → PropertyUnmet f id k n × (p ≡ id)
   unfolding propertyIn
@@ -172,12 +195,10 @@ module _ (f : File) (id : ℕ) where
 
   pub orientation-unmet : (s : Scene) (n p : ℕ) → orientationIn s f id ≡ refuse n p → OrientationUnmet f id n × (p ≡ id)
   unfolding orientationIn
-  orientation-unmet s n p e = elim (pictured-or _ n p e) [ inl x ↦ (no-picture (x .0), x .1) | inr x ↦ last (x .0) (check-then 26 id _ _ n p (x .1)) ]
-    where
-      last : {A : Type 0} {a : A} → IsPicture f id → ((n ≡ 26) × (p ≡ id) × (not (member clap (typesOf f id)) ≡ false))
-          ⊎ ((not (member clap (typesOf f id)) ≡ true) × (ok a ≡ refuse n p)) → OrientationUnmet f id n × (p ≡ id)
-      last i (inl x) = (cropped (x .0) i (not-false _ (x .2)), x .1)
-      last i (inr x) = never _ n p (x .1)
+  orientation-unmet s n p e = elim (picture-then 26 _ _ n p e) [
+    | inl x ↦ (no-picture (x .0), x .1)
+    | inr x ↦ (cropped (x .1) (x .0) (not-false _ (x .3)), x .2)
+  ]
 
 -- The other way: what is unmet refuses.
 module _ (f : File) (id : ℕ) where
@@ -217,6 +238,11 @@ module _ (f : File) (id : ℕ) where
       by false h = h
       by true h = let b = and-both _ _ h in
           absurd (o (record { in-x = ltb-true (q .x) (z .wide) (b .0); in-y = ltb-true (q .y) (z .high) (b .1) }))
+
+  pub points-off : (k n p : ℕ) → PointsUnmet f id k n × (p ≡ id) → pointsIn f id k ≡ refuse n p
+  unfolding pointsIn
+  points-off k n p (no-pixels u, e) = picture-off _ n p u e
+  points-off k n p (too-many i w l, e) = picture-last 28 n p _ _ w i e (lt-leb k 512 l)
 
   pub sources-off : (s : Scene) (room n p : ℕ) → SourcesUnmet s f id room n × (p ≡ id) → sourcesIn s f id room ≡ refuse n p
   unfolding sourcesIn

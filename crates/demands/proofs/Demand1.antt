@@ -33,6 +33,9 @@ use Rattle.asked.specs.declared.Sized.{Sized}
 use Rattle.asked.specs.declared.Sized.the-variants as sized
 use Rattle.traced.specs.declared.Traced.{Traced}
 use Rattle.traced.specs.declared.Traced.the-variants as traced
+use Rattle.seam.specs.declared.PointRecord.{PointRecord}
+use Rattle.seam.specs.declared.PointsFilled.{PointsFilled}
+use Rattle.seam.specs.declared.PointsFilled.the-variants as filled
 use Rattle.sourced.specs.declared.Listed.{Listed}
 use Rattle.sourced.specs.declared.Listed.the-variants as listed
 use Rattle.facing.specs.declared.Oriented.{Oriented}
@@ -40,19 +43,37 @@ use Rattle.facing.specs.declared.Oriented.the-variants as oriented
 use Rattle.facing.specs.Orientation.{orientation}
 use Rattle.asked.specs.Told.{toldVerdict, toldSized}
 use Rattle.traced.specs.Told.{toldFound, toldTraced}
+use Rattle.seam.specs.Points.{pointsIn, points, singleTrace, recordsAfter, toldPointsFilled}
+use Rattle.seam.specs.Numbers.{numbersAfter}
 use Rattle.sourced.specs.Told.{toldListed}
 use Rattle.facing.specs.Told.{toldOriented}
 use Rattle.still.specs.Told.{toldPart, toldFault}
-use Rattle.still.specs.Given.{VerdictGiven, SizeGiven, TraceGiven, SourcesGiven, OrientationGiven, PropertyGiven}
+use Rattle.still.specs.Given.{
+  VerdictGiven,
+  SizeGiven,
+  TraceGiven,
+  PointsGiven,
+  PointNumbersGiven,
+  SourcesGiven,
+  OrientationGiven,
+  PropertyGiven,
+}
 use Rattle.faults.proofs.GoodLaws.{accepted-good, refused-first}
-use Rattle.demands.specs.Call.{SizeUnmet, TraceUnmet, SourcesUnmet, PropertyUnmet, OrientationUnmet, Call, short, bad, unmet}
-use Rattle.demands.proofs.ToldLaws.{verdict-told, size-told, trace-told, sources-told, orientation-told}
-use Rattle.demands.proofs.AskedLaws.{size-unmet, trace-unmet, sources-unmet, property-unmet, orientation-unmet}
+use Rattle.demands.specs.Call.{SizeUnmet, TraceUnmet, PointsUnmet, SourcesUnmet, PropertyUnmet, OrientationUnmet, Call, short, bad, unmet}
+use Rattle.demands.proofs.ToldLaws.{verdict-told, size-told, trace-told, points-told, sources-told, orientation-told}
+use Rattle.demands.proofs.AskedLaws.{size-unmet, trace-unmet, points-unmet, sources-unmet, property-unmet, orientation-unmet}
 
 never : {A B : Type 0} (x : A) (n p : ℕ) → ok x ≡ refuse n p → B
 never x n p e = let z : _≡_ {A = ℕ} 0 1 = cc in absurd (omega arith)
 
 module _ (head : List ℕ) (total : ℕ) where
+  -- many points and a single one, asked of what is opened
+  abbrev pub pointsOf : ℕ → ℕ → Answer File → Answer ℕ
+  pointsOf id k o = o >>= (λ f. pointsIn f id k)
+
+  abbrev pub traceOf : ℕ → Answer File → Point → Answer Q.Found
+  traceOf id o p = o >>= (λ f. traceIn (sceneOf total head f) f id p)
+
   -- a question is what reading and judging give, then what is asked of the file
   module _ (table left : List ℕ) (is : left ≡ after total head table) where
     pub refused-call : {A : Type 0} (k : File → Answer A) (Unmet : File → ℕ → ℕ → Type 0) →
@@ -68,6 +89,13 @@ module _ (head : List ℕ) (total : ℕ) where
         by true q (refuse i j) a l e = let x : i ≡ n = cc in let y : j ≡ p = cc in
             bad (leb-true _ _ q) (refused-first total head n p (a ∙ ap (λ (i : ℕ). refuse i j) x ∙ ap (refuse n) y)) l
         by true q (ok f) a l e = unmet (leb-true _ _ q) f (accepted-good total head f a) (h f n p e) l
+
+    -- what was lent beside the table is as it was
+    refused-kept : {A L : Type 0} (k : File → Answer A) (Unmet : File → ℕ → ℕ → Type 0) →
+        ((f : File) (n p : ℕ) → k f ≡ refuse n p → Unmet f n p) → (keep : Answer A → L) (l x : L) →
+        ((n p : ℕ) → keep (refuse n p) ≡ l) → x ≡ keep (opened (length table) total head >>= k) → (n p : ℕ) →
+        (opened (length table) total head >>= k) ≡ refuse n p → Call head total table Unmet n p left × (x ≡ l)
+    refused-kept k Unmet h keep l x same g n p e = (refused-call k Unmet h n p e, g ∙ ap keep e ∙ same n p)
 
   module _ (table left : List ℕ) (y : Refusal) where
     pub verdict-refused : VerdictGiven head total table (verdict.Refused y) left → Call head total table (λ f n p. ⊥) (y .number) (y .place) left
@@ -101,12 +129,30 @@ module _ (head : List ℕ) (total : ℕ) where
         Call head total table (λ f n p. SourcesUnmet (sceneOf total head f) f id (length list) n × (p ≡ id)) (y .number)
         (y .place) left × (list-left ≡ list)
     unfolding Q.sources listAfter
-    sources-refused id list list-left g =
-        let e = sources-told (Q.sources (length table) total head id (length list)) y (sym (g .0)) in (
-          refused-call table left (g .1 .1) _ _ (λ f n p e. sources-unmet f id (sceneOf total head f) (length list) n p
-              e) _ _ e,
-          g .1 .0 ∙ ap (λ (m : Answer (List ℕ)). listAfter m list) e,
-        )
+    sources-refused id list list-left g = refused-kept table left (g .1 .1) _ _
+        (λ f n p e. sources-unmet f id (sceneOf total head f) (length list) n p e) (λ m. listAfter m list) list list-left
+        (λ n p. refl) (g .1 .0) _ _ (sources-told (Q.sources (length table) total head id (length list)) y (sym (g .0)))
+
+    -- every record is as it was
+    pub points-refused : (id : ℕ) (records records-left : List PointRecord) →
+        PointsGiven head total table id records (filled.Refused y) records-left left →
+        Call head total table (λ f n p. PointsUnmet f id (length records) n × (p ≡ id)) (y .number) (y .place) left ×
+        (records-left ≡ records)
+    unfolding points recordsAfter
+    points-refused id records records-left g = refused-kept table left (g .1 .1) _ _
+        (λ f n p e. points-unmet f id (length records) n p e)
+        (λ m. recordsAfter m (singleTrace (length table) total head id) records) records records-left (λ n p. refl)
+        (g .1 .0) _ _ (points-told (points (length table) total head id (length records)) y (sym (g .0)))
+
+    pub point-numbers-refused : (id : ℕ) (records records-left : List (List ℕ)) →
+        PointNumbersGiven head total table id records (filled.Refused y) records-left left →
+        Call head total table (λ f n p. PointsUnmet f id (length records) n × (p ≡ id)) (y .number) (y .place) left ×
+        (records-left ≡ records)
+    unfolding points numbersAfter
+    point-numbers-refused id records records-left g = refused-kept table left (g .1 .1) _ _
+        (λ f n p e. points-unmet f id (length records) n p e)
+        (λ m. numbersAfter m (Q.trace (length table) total head id) records) records records-left (λ n p. refl)
+        (g .1 .0) _ _ (points-told (points (length table) total head id (length records)) y (sym (g .0)))
 
   -- property: the part is empty, and the two numbers carry the refusal
   pub property-refused : (table : List ℕ) (id k : ℕ) (part told left : List ℕ) →
@@ -146,6 +192,16 @@ module _ (head : List ℕ) (total : ℕ) where
         r ≡ told (opened (length t) total head >>= k) → s ≡ told (opened (length u) total head >>= k) → r ≡ s
     asked-same told k r s x y = x ∙ ap (λ (m : Answer File). told (m >>= k)) opened-same ∙ sym y
 
+    -- what is told of what is opened, and what is left of what was lent beside the table
+    pub lent-same : {B L : Type 0} (told : Answer File → B) (keep : Answer File → L) (r s : B) (l m : L) (a b : List ℕ) →
+        (r ≡ told (opened (length t) total head)) × ((l ≡ keep (opened (length t) total head)) × (a ≡ after total head t))
+        → (s ≡ told (opened (length u) total head)) × ((m ≡ keep (opened (length u) total head)) ×
+        (b ≡ after total head u)) → (r ≡ s) × ((l ≡ m) × (take 11280 a ≡ take 11280 b))
+    lent-same told keep r s l m a b x y = (
+      x .0 ∙ ap told opened-same ∙ sym (y .0),
+      (x .1 .0 ∙ ap keep opened-same ∙ sym (y .1 .0), after-same a b (x .1 .1) (y .1 .1)),
+    )
+
     pub verdict-same : (r s : FileVerdict) (a b : List ℕ) → VerdictGiven head total t r a →
         VerdictGiven head total u s b → (r ≡ s) × (take 11280 a ≡ take 11280 b)
     unfolding Q.verdict
@@ -165,18 +221,28 @@ module _ (head : List ℕ) (total : ℕ) where
         SourcesGiven head total t id list r l a → SourcesGiven head total u id list s m b → (r ≡ s) ×
         ((l ≡ m) × (take 11280 a ≡ take 11280 b))
     unfolding Q.sources
-    sources-same id list r s l m a b x y = (
-      asked-same toldListed _ r s (x .0) (y .0),
-      (asked-same (λ z. listAfter z list) _ l m (x .1 .0) (y .1 .0), after-same a b (x .1 .1) (y .1 .1)),
-    )
+    sources-same id list = lent-same (λ o. toldListed (o >>= (λ f. sourcesIn (sceneOf total head f) f id (length list))))
+        (λ o. listAfter (o >>= (λ f. sourcesIn (sceneOf total head f) f id (length list))) list)
+
+    pub points-same : (id : ℕ) (records : List PointRecord) (r s : PointsFilled) (l m : List PointRecord) (a b : List ℕ) →
+        PointsGiven head total t id records r l a → PointsGiven head total u id records s m b → (r ≡ s) ×
+        ((l ≡ m) × (take 11280 a ≡ take 11280 b))
+    unfolding points Q.trace
+    points-same id records = lent-same (λ o. toldPointsFilled (pointsOf id (length records) o))
+        (λ o. recordsAfter (pointsOf id (length records) o) (λ p. toldTraced (traceOf id o p)) records)
+
+    pub point-numbers-same : (id : ℕ) (records : List (List ℕ)) (r s : PointsFilled) (l m : List (List ℕ)) (a b : List ℕ) →
+        PointNumbersGiven head total t id records r l a → PointNumbersGiven head total u id records s m b → (r ≡ s) ×
+        ((l ≡ m) × (take 11280 a ≡ take 11280 b))
+    unfolding points Q.trace
+    point-numbers-same id records = lent-same (λ o. toldPointsFilled (pointsOf id (length records) o))
+        (λ o. numbersAfter (pointsOf id (length records) o) (traceOf id o) records)
 
     pub property-same : (id k : ℕ) (part same l m a b : List ℕ) → PropertyGiven head total t id k part l a →
         PropertyGiven head total u id k same m b → (part ≡ same) × ((l ≡ m) × (take 11280 a ≡ take 11280 b))
     unfolding Q.property
-    property-same id k part same l m a b x y = (
-      asked-same toldPart _ part same (x .0) (y .0),
-      (asked-same toldFault _ l m (x .1 .0) (y .1 .0), after-same a b (x .1 .1) (y .1 .1)),
-    )
+    property-same id k = lent-same (λ o. toldPart (o >>= (λ f. propertyIn (placesIn total head) f id k)))
+        (λ o. toldFault (o >>= (λ f. propertyIn (placesIn total head) f id k)))
 
     pub orientation-same : (id : ℕ) (r s : Oriented) (a b : List ℕ) → OrientationGiven head total t id r a →
         OrientationGiven head total u id s b → (r ≡ s) × (take 11280 a ≡ take 11280 b)

@@ -27,17 +27,31 @@ use Rattle.asked.specs.declared.FileVerdict.{FileVerdict}
 use Rattle.asked.specs.declared.FileVerdict.the-variants as verdict
 use Rattle.asked.specs.declared.Sized.{Sized}
 use Rattle.traced.specs.declared.Traced.{Traced}
+use Rattle.seam.specs.declared.PointRecord.{PointRecord}
+use Rattle.seam.specs.declared.PointsFilled.{PointsFilled}
 use Rattle.sourced.specs.declared.Listed.{Listed}
 use Rattle.facing.specs.declared.Oriented.{Oriented}
 use Rattle.facing.specs.Orientation.{orientationIn, orientation}
 use Rattle.asked.specs.Told.{toldVerdict, toldSized}
 use Rattle.traced.specs.Told.{toldTraced}
+use Rattle.seam.specs.Points.{pointsIn, points, recordsAfter, toldPointsFilled}
+use Rattle.seam.specs.Numbers.{numbersAfter}
 use Rattle.sourced.specs.Told.{toldListed}
 use Rattle.facing.specs.Told.{toldOriented}
 use Rattle.still.specs.Told.{toldPart, toldFault}
-use Rattle.still.specs.Given.{VerdictGiven, SizeGiven, TraceGiven, SourcesGiven, OrientationGiven, PropertyGiven}
+use Rattle.still.specs.Given.{
+  VerdictGiven,
+  SizeGiven,
+  TraceGiven,
+  PointsGiven,
+  PointNumbersGiven,
+  SourcesGiven,
+  OrientationGiven,
+  PropertyGiven,
+}
 use Rattle.faults.specs.Good.{GoodFile}
 use Rattle.faults.proofs.GoodLaws.{accepted-good, good-accepted}
+use Rattle.demands.proofs.Demand1.{pointsOf, traceOf}
 
 module _ (head : List ℕ) (total : ℕ) (table : List ℕ) where
   -- `verdict` accepts only a file that keeps the rules, and tells its items and its primary item
@@ -56,7 +70,7 @@ module _ (head : List ℕ) (total : ℕ) (table : List ℕ) where
           (leb-true _ _ q, (f, accepted-good total head f a, (cc), ap (λ (x : ItemId). x .0) same))
 
   module _ (enough : 11280 ≤ length table) (f : File) (good : GoodFile total head f) where
-    good-opened : opened (length table) total head ≡ ok f
+    pub good-opened : opened (length table) total head ≡ ok f
     unfolding opened
     good-opened = ok-then _ _ tt (ok-check 1 0 _ (le-leb 11280 (length table) enough)) ∙ good-accepted total head f good
 
@@ -85,22 +99,46 @@ module _ (head : List ℕ) (total : ℕ) (table : List ℕ) where
     unfolding Q.trace
     trace-good id p r left g = (asked toldTraced _ r (g .0), g .1 ∙ good-after)
 
+    -- an answer, and what was lent beside the table
+    lent : {B L : Type 0} (told : Answer File → B) (keep : Answer File → L) (r : B) (l : L) (left : List ℕ) →
+        (r ≡ told (opened (length table) total head)) × ((l ≡ keep (opened (length table) total head)) ×
+        (left ≡ after total head table)) → (r ≡ told (ok f)) × ((l ≡ keep (ok f)) ×
+        (left ≡ wordsOf total head f ++ drop 11280 table))
+    lent told keep r l left g = (g .0 ∙ ap told good-opened, (g .1 .0 ∙ ap keep good-opened, g .1 .1 ∙ good-after))
+
+    pub points-good : (id : ℕ) (records : List PointRecord) (r : PointsFilled) (records-left : List PointRecord) (left : List ℕ)
+        → PointsGiven head total table id records r records-left left
+        → (r ≡ toldPointsFilled (pointsIn f id (length records))) ×
+        ((records-left ≡ recordsAfter (pointsIn f id (length records)) (λ p. toldTraced (traceIn (sceneOf total head f) f id p)) records)
+        × (left ≡ wordsOf total head f ++ drop 11280 table))
+    unfolding points Q.trace _>>=_
+    points-good id records = lent (λ o. toldPointsFilled (pointsOf head total id (length records) o))
+        (λ o. recordsAfter (pointsOf head total id (length records) o) (λ p. toldTraced (traceOf head total id o p)) records)
+
+    pub point-numbers-good : (id : ℕ) (records : List (List ℕ)) (r : PointsFilled) (records-left : List (List ℕ)) (left : List ℕ)
+        → PointNumbersGiven head total table id records r records-left left
+        → (r ≡ toldPointsFilled (pointsIn f id (length records))) ×
+        ((records-left ≡ numbersAfter (pointsIn f id (length records)) (traceIn (sceneOf total head f) f id) records)
+        × (left ≡ wordsOf total head f ++ drop 11280 table))
+    unfolding points Q.trace _>>=_
+    point-numbers-good id records = lent (λ o. toldPointsFilled (pointsOf head total id (length records) o))
+        (λ o. numbersAfter (pointsOf head total id (length records) o) (traceOf head total id o) records)
+
     pub sources-good : (id : ℕ) (list : List ℕ) (r : Listed) (list-left left : List ℕ) → SourcesGiven head total table id list r list-left left
         → (r ≡ toldListed (sourcesIn (sceneOf total head f) f id (length list))) ×
         ((list-left ≡ listAfter (sourcesIn (sceneOf total head f) f id (length list)) list) ×
         (left ≡ wordsOf total head f ++ drop 11280 table))
-    unfolding Q.sources
-    sources-good id list r list-left left g = (asked toldListed _ r (g .0), (asked (λ m. listAfter m list) _ list-left (g .1 .0), g .1 .1 ∙ good-after))
+    unfolding Q.sources _>>=_
+    sources-good id list = lent (λ o. toldListed (o >>= (λ f. sourcesIn (sceneOf total head f) f id (length list))))
+        (λ o. listAfter (o >>= (λ f. sourcesIn (sceneOf total head f) f id (length list))) list)
 
     pub property-good : (id k : ℕ) (part told left : List ℕ) → PropertyGiven head total table id k part told left
         → (part ≡ toldPart (propertyIn (placesIn total head) f id k)) ×
         ((told ≡ toldFault (propertyIn (placesIn total head) f id k)) ×
         (left ≡ wordsOf total head f ++ drop 11280 table))
-    unfolding Q.property
-    property-good id k part told left g = (
-      asked toldPart _ part (g .0),
-      (asked toldFault _ told (g .1 .0), g .1 .1 ∙ good-after),
-    )
+    unfolding Q.property _>>=_
+    property-good id k = lent (λ o. toldPart (o >>= (λ f. propertyIn (placesIn total head) f id k)))
+        (λ o. toldFault (o >>= (λ f. propertyIn (placesIn total head) f id k)))
 
     pub orientation-good : (id : ℕ) (r : Oriented) (left : List ℕ) → OrientationGiven head total table id r left →
         (r ≡ toldOriented (orientationIn (sceneOf total head f) f id)) ×

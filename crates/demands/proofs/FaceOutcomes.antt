@@ -10,15 +10,19 @@ use Rattle.pictures.specs.Turn.{point}
 use Rattle.rules.specs.Places.{placesIn}
 use Rattle.rules.specs.Derivations.{sceneOf}
 use Rattle.questions.specs.Questions.{verdictIn, sizeIn, traceIn, sourcesIn, propertyIn, listAfter}
+use Rattle.questions.specs.Questions as Q
+use Rattle.seam.specs.Points.{pointsIn}
+use Rattle.seam.specs.Numbers.{numbersAfter}
 use Rattle.facing.specs.Orientation.{orientationIn}
-use Rattle.out.specs.Out.{outVerdict, outSized, outTraced, outListed, outPart, outOrientation}
-use Rattle.still_c.specs.Given.{VerdictGiven, SizeGiven, TraceGiven, SourcesGiven, PropertyGiven, OrientationGiven}
-use Rattle.demands.specs.Call.{SizeUnmet, TraceUnmet, SourcesUnmet, PropertyUnmet, OrientationUnmet}
+use Rattle.out.specs.Out.{outVerdict, outSized, outTraced, outPoints, outListed, outPart, outOrientation}
+use Rattle.still_c.specs.Given.{VerdictGiven, SizeGiven, TraceGiven, PointsGiven, SourcesGiven, PropertyGiven, OrientationGiven}
+use Rattle.demands.specs.Call.{SizeUnmet, TraceUnmet, PointsUnmet, SourcesUnmet, PropertyUnmet, OrientationUnmet}
 use Rattle.demands.specs.Outcome.{Decided}
 use Rattle.demands.proofs.OutcomeLaws.{
   verdict-decides,
   size-decides,
   trace-decides,
+  points-decides,
   sources-decides,
   property-decides,
   orientation-decides,
@@ -41,6 +45,16 @@ module _ (head : List ℕ) (total : ℕ) (table : List ℕ) where
   pub orientation-decided : (id : ℕ) (r : List ℕ) (left : List ℕ) → OrientationGiven head total table id r left →
       Decided head total table (λ f. orientationIn (sceneOf total head f) f id) outOrientation (λ f n p. OrientationUnmet f id n × (p ≡ id)) r left
   orientation-decided id r left g = orientation-decides head total table left (g .1) r outOrientation id (g .0)
+
+  -- the numbers with the records
+  pub points-decided : (id : ℕ) (records : List (List ℕ)) (r : List ℕ) (filled : List (List ℕ)) (left : List ℕ) →
+      PointsGiven head total table id records r filled left → Decided head total table {B = List ℕ × List (List ℕ)}
+      (λ f. pointsIn f id (length records))
+      (λ m. (outPoints m, numbersAfter m (Q.trace (length table) total head id) records))
+      (λ f n p. PointsUnmet f id (length records) n × (p ≡ id)) (r, filled) left
+  points-decided id records r filled left g = points-decides head total table left (g .2) (r, filled)
+      (λ m. (outPoints m, numbersAfter m (Q.trace (length table) total head id) records)) id (length records)
+      (rw (g .0, g .1))
 
   -- the numbers with the list that was lent
   pub sources-decided : (id : ℕ) (list r list-left left : List ℕ) →

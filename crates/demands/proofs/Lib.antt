@@ -12,6 +12,8 @@ pub mod Demand1
 pub mod Demand2
 pub mod MetLaws
 pub mod Demand3
+pub mod PointLaws
+pub mod Points
 pub mod Facing
 pub mod OutcomeLaws
 pub mod Outcomes

@@ -18,6 +18,7 @@ use Rattle.rules.specs.Opening as Opening
 use Rattle.questions.specs.Questions as Q
 use Rattle.faults.specs.Fault.{Rule, Number, n12, n13, n14, n15, n16, n17, n18, n19, n20, ruleOf}
 use Rattle.faults.proofs.JudgedLaws.{judged-first}
+use Rattle.seam.specs.Points.{pointsIn, points}
 use Rattle.facing.specs.Orientation.{Transform, orientationIn, orientation, transformsIn}
 use Rattle.demands.specs.Numbers.{
   Among,
@@ -26,6 +27,7 @@ use Rattle.demands.specs.Numbers.{
   fileNumbers,
   sizeNumbers,
   traceNumbers,
+  pointsNumbers,
   sourcesNumbers,
   propertyNumbers,
   orientationNumbers,
@@ -124,6 +126,13 @@ module _ (total : ℕ) (head : List ℕ) where
     trace-number id q = asked-number traceNumbers refl (λ f. do
       r ← pictured-only traceNumbers f id refl refl
       only-check 23 id _ refl
+      only-ok)
+
+    pub points-number : (id k : ℕ) → points words total head id k ≡ refuse n p → Among pointsNumbers n
+    unfolding points pointsIn
+    points-number id k = asked-number pointsNumbers refl (λ f. do
+      r ← pictured-only pointsNumbers f id refl refl
+      only-check 28 id _ refl
       only-ok)
 
     pub sources-number : (id room : ℕ) → Q.sources words total head id room ≡ refuse n p → Among sourcesNumbers n

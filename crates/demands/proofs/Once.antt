@@ -1,5 +1,5 @@
 -- Determined: any two results of a public function that keep its promise are equal, the answer, what it leaves in a
--- list, and every word of the table. Assumes nothing.
+-- list or in records, and every word of the table. Assumes nothing.
 use Prim.Native.Nat.{ℕ}
 use mathlib.Core.Path.{_≡_, sym, _∙_}
 use mathlib.Core.List.{List}
@@ -8,12 +8,25 @@ use Rattle.opening.specs.declared.Opened.{Opened}
 use Rattle.asked.specs.declared.FileVerdict.{FileVerdict}
 use Rattle.asked.specs.declared.Sized.{Sized}
 use Rattle.traced.specs.declared.Traced.{Traced}
+use Rattle.seam.specs.declared.PointRecord.{PointRecord}
+use Rattle.seam.specs.declared.PointsFilled.{PointsFilled}
 use Rattle.sourced.specs.declared.Listed.{Listed}
 use Rattle.facing.specs.declared.Oriented.{Oriented}
 use Rattle.asked.specs.declared.PropertyAsked.{PropertyAsked}
 use Rattle.facing.specs.declared.TransformList.{TransformList}
 use Rattle.opening.specs.Told.{OpenedGiven}
-use Rattle.still.specs.Given.{VerdictGiven, SizeGiven, TraceGiven, SourcesGiven, OrientationGiven, TransformsGiven, AskedGiven, PropertyGiven}
+use Rattle.still.specs.Given.{
+  VerdictGiven,
+  SizeGiven,
+  TraceGiven,
+  PointsGiven,
+  PointNumbersGiven,
+  SourcesGiven,
+  OrientationGiven,
+  TransformsGiven,
+  AskedGiven,
+  PropertyGiven,
+}
 
 -- what is given by equations is given once
 pub two : {A B : Type 0} {a r s : A} {b t u : B} → (r ≡ a) × (t ≡ b) → (s ≡ a) × (u ≡ b) → (r ≡ s) × (t ≡ u)
@@ -35,6 +48,16 @@ module _ (head : List ℕ) (total : ℕ) (table : List ℕ) where
   pub trace-once : (id : ℕ) (p : Point) (r s : Traced) (t u : List ℕ) → TraceGiven head total table id p r t →
       TraceGiven head total table id p s u → (r ≡ s) × (t ≡ u)
   trace-once id p r s t u = two
+
+  pub points-once : (id : ℕ) (records : List PointRecord) (r s : PointsFilled) (l m : List PointRecord) (t u : List ℕ) →
+      PointsGiven head total table id records r l t → PointsGiven head total table id records s m u → (r ≡ s) ×
+      ((l ≡ m) × (t ≡ u))
+  points-once id records r s l m t u = three
+
+  pub point-numbers-once : (id : ℕ) (records : List (List ℕ)) (r s : PointsFilled) (l m : List (List ℕ)) (t u : List ℕ) →
+      PointNumbersGiven head total table id records r l t → PointNumbersGiven head total table id records s m u → (r ≡ s) ×
+      ((l ≡ m) × (t ≡ u))
+  point-numbers-once id records r s l m t u = three
 
   pub sources-once : (id : ℕ) (list : List ℕ) (r s : Listed) (l m t u : List ℕ) →
       SourcesGiven head total table id list r l t → SourcesGiven head total table id list s m u → (r ≡ s) ×

@@ -20,10 +20,12 @@ use Rattle.rules.specs.Places.{placesIn}
 use Rattle.rules.specs.Derivations.{sceneOf}
 use Rattle.questions.specs.Questions.{verdictIn, sizeIn, traceIn, sourcesIn, propertyIn}
 use Rattle.questions.specs.Questions as Q
+use Rattle.seam.specs.Points.{pointsIn, points}
 use Rattle.facing.specs.Orientation.{orientationIn, orientation}
 use Rattle.demands.specs.Call.{
   SizeUnmet,
   TraceUnmet,
+  PointsUnmet,
   SourcesUnmet,
   PropertyUnmet,
   OrientationUnmet,
@@ -36,11 +38,13 @@ use Rattle.demands.specs.Outcome.{Outcome, answered, refused, Refuses, D
 use Rattle.demands.proofs.AskedLaws.{
   size-unmet,
   trace-unmet,
+  points-unmet,
   sources-unmet,
   property-unmet,
   orientation-unmet,
   size-off,
   trace-off,
+  points-off,
   sources-off,
   property-off,
   orientation-off,
@@ -107,6 +111,11 @@ module _ (head : List ℕ) (total : ℕ) (table left : List ℕ) (is : left ≡ 
   unfolding Q.trace
   trace-decides told id q g = decided head total table left is _ told _ r g
       (λ f. trace-unmet f id (sceneOf total head f) q) (λ f. trace-off f id (sceneOf total head f) q)
+
+  pub points-decides : (told : Answer ℕ → B) (id k : ℕ) → r ≡ told (points (length table) total head id k) →
+      Decided head total table (λ f. pointsIn f id k) told (λ f n p. PointsUnmet f id k n × (p ≡ id)) r left
+  unfolding points
+  points-decides told id k g = decided head total table left is _ told _ r g (λ f. points-unmet f id k) (λ f. points-off f id k)
 
   pub sources-decides : (told : Answer (List ℕ) → B) (id room : ℕ) → r ≡ told (Q.sources (length table) total head id room) →
       Decided head total table (λ f. sourcesIn (sceneOf total head f) f id room) told

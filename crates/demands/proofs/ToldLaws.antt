@@ -10,6 +10,7 @@ use Rattle.questions.specs.Questions as Q
 use Rattle.asked.specs.declared.FileVerdict.the-variants as verdict
 use Rattle.asked.specs.declared.Sized.the-variants as sized
 use Rattle.traced.specs.declared.Traced.the-variants as traced
+use Rattle.seam.specs.declared.PointsFilled.the-variants as filled
 use Rattle.sourced.specs.declared.Listed.the-variants as listed
 use Rattle.facing.specs.declared.Oriented.the-variants as oriented
 use Rattle.facing.specs.declared.TransformList.the-variants as transforms
@@ -17,6 +18,7 @@ use Rattle.facing.specs.Orientation.{Transform}
 use Rattle.facing.specs.Told.{toldTransforms}
 use Rattle.asked.specs.Told.{toldVerdict, toldSized}
 use Rattle.traced.specs.Told.{toldFound, toldTraced}
+use Rattle.seam.specs.Points.{toldPointsFilled}
 use Rattle.sourced.specs.Told.{toldListed}
 use Rattle.facing.specs.Told.{toldOriented}
 
@@ -44,6 +46,16 @@ found-told false x y e = let z : _≡_ {A = ℕ} 0 1 = cc in omega arith
 pub trace-told : (m : Answer Q.Found) (y : Refusal) → toldTraced m ≡ traced.Refused y → m ≡ refuse (y .number) (y .place)
 unfolding toldTraced
 trace-told = told-refused toldTraced traced.Refused (λ x y e. found-told (x .isFill) x y e) (λ n p y e. ((cc), (cc)))
+
+pub points-told : (m : Answer ℕ) (y : Refusal) → toldPointsFilled m ≡ filled.Refused y → m ≡ refuse (y .number) (y .place)
+unfolding toldPointsFilled
+points-told = told-refused toldPointsFilled filled.Refused (λ x y e. let z : _≡_ {A = ℕ} 0 1 = cc in omega arith) (λ n p y e. ((cc), (cc)))
+
+-- and a count that is told
+pub points-all : (m : Answer ℕ) (n : ℕ) → toldPointsFilled m ≡ filled.All n → m ≡ ok n
+unfolding toldPointsFilled
+points-all (ok k) n e = let i : k ≡ n = cc in rw i
+points-all (refuse k p) n e = let z : _≡_ {A = ℕ} 0 1 = cc in absurd (omega arith)
 
 pub sources-told : (m : Answer (List ℕ)) (y : Refusal) → toldListed m ≡ listed.Refused y → m ≡ refuse (y .number) (y .place)
 unfolding toldListed

@@ -3,7 +3,7 @@
 -- written."
 --   IsListed f id, IsPicture f id        f lists the item with that ID, and it is no opaque one
 --   shownAs s f id                       that item's picture
---   SizeUnmet, TraceUnmet, SourcesUnmet, PropertyUnmet, OrientationUnmet .. n
+--   SizeUnmet, TraceUnmet, PointsUnmet, SourcesUnmet, PropertyUnmet, OrientationUnmet .. n
 --                                        why a question of a good file is refused by n; the place is the asked ID
 --   Call head total table Unmet n p left     a call that is refused by n at p: why, and the table that it leaves
 use Prim.Native.Nat.{ℕ, _≤_, _<_}
@@ -42,6 +42,12 @@ pub data SizeUnmet (f : File) (id n : ℕ) : Type 0 where
 pub data TraceUnmet (s : Scene) (f : File) (id : ℕ) (p : Point) (n : ℕ) : Type 0 where
   not-shown : SizeUnmet f id n → TraceUnmet s f id p n
   outside : n ≡ 23 → IsPicture f id → (Inside (outputOf (shownAs s f id)) p → ⊥) → TraceUnmet s f id p n
+
+-- 28: "Refusals 1 to 22 and a list over 512 (28, after 22) change no record." k is how many records are lent. No point is
+-- among the reasons: "A point outside the picture gets 23 in its own record and the others are still answered."
+pub data PointsUnmet (f : File) (id k n : ℕ) : Type 0 where
+  no-pixels : SizeUnmet f id n → PointsUnmet f id k n
+  too-many : n ≡ 28 → IsPicture f id → 512 < k → PointsUnmet f id k n
 
 -- 24: "list shorter than the sources"
 pub data SourcesUnmet (s : Scene) (f : File) (id room n : ℕ) : Type 0 where

@@ -33,6 +33,10 @@ sizeNumbers = fileNumbers ++ (21 ∷ 22 ∷ [])
 abbrev pub traceNumbers : List ℕ
 traceNumbers = fileNumbers ++ (21 ∷ 22 ∷ 23 ∷ [])
 
+-- document 02: "Refusals 1 to 22 and a list over 512 (28, after 22)"; 23 stands in a record, and refuses no call
+abbrev pub pointsNumbers : List ℕ
+pointsNumbers = fileNumbers ++ (21 ∷ 22 ∷ 28 ∷ [])
+
 -- 24: "list shorter than the sources"
 abbrev pub sourcesNumbers : List ℕ
 sourcesNumbers = fileNumbers ++ (21 ∷ 22 ∷ 24 ∷ [])

@@ -10,13 +10,15 @@ use Rattle.boxes.specs.Answer.{Answer, ok, refuse}
 use Rattle.boxes.specs.declared.Refusal.{Refusal}
 use Rattle.questions.specs.Questions as Q
 use Rattle.asked.specs.Told.{toldVerdict, toldSized}
-use Rattle.traced.specs.Told.{toldFound, toldTraced}
+use Rattle.traced.specs.Told.{toldFound, toldTraced, endNumber}
+use Rattle.seam.specs.Points.{toldPointsFilled}
 use Rattle.sourced.specs.Told.{toldListed}
 use Rattle.asked.specs.declared.FileVerdict.the-variants as verdicts
 use Rattle.asked.specs.declared.Sized.the-variants as sizes
 use Rattle.traced.specs.declared.Traced.the-variants as traces
+use Rattle.seam.specs.declared.PointsFilled.the-variants as filled
 use Rattle.sourced.specs.declared.Listed.the-variants as lists
-use Rattle.out.specs.Out.{outRefused, outVerdict, outSized, endNumber, outTraced, outListed}
+use Rattle.out.specs.Out.{outRefused, outVerdict, outSized, outTraced, outPoints, outListed}
 
 -- outVerdict
 pub verdict-refused : (m : Answer Q.Verdict) (y : Refusal) → verdicts.Refused y ≡ toldVerdict m → outRefused (y .number) (y .place) ≡ outVerdict m
@@ -71,6 +73,17 @@ module _ (i : ItemId) (x y n : ℕ) where
       by false e = let z : _≡_ {A = ℕ} 0 1 = cc in absurd (omega arith)
       by true e = cc
   trace-fill (refuse k p) e = let z : _≡_ {A = ℕ} 0 1 = cc in absurd (omega arith)
+
+-- outPoints
+pub points-refused : (m : Answer ℕ) (y : Refusal) → filled.Refused y ≡ toldPointsFilled m → outRefused (y .number) (y .place) ≡ outPoints m
+unfolding toldPointsFilled outPoints
+points-refused (ok k) y e = let z : _≡_ {A = ℕ} 0 1 = cc in absurd (omega arith)
+points-refused (refuse n p) y e = let i : y .number ≡ n = cc in let j : y .place ≡ p = cc in rw (i, j)
+
+pub points-told : (m : Answer ℕ) (count : ℕ) → filled.All count ≡ toldPointsFilled m → (0 ∷ 0 ∷ count ∷ 0 ∷ 0 ∷ 0 ∷ 0 ∷ 0 ∷ []) ≡ outPoints m
+unfolding toldPointsFilled outPoints
+points-told (ok k) count e = let i : count ≡ k = cc in rw i
+points-told (refuse n p) count e = let z : _≡_ {A = ℕ} 0 1 = cc in absurd (omega arith)
 
 -- outListed
 pub list-refused : (m : Answer (List ℕ)) (y : Refusal) → lists.Refused y ≡ toldListed m → outRefused (y .number) (y .place) ≡ outListed m

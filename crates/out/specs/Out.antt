@@ -1,7 +1,7 @@
 -- The answers as C is given them, eight numbers each: "A refusal returns number and place; other numbers are 0", then
 -- the answer's values in document 01's order.
 --   outRefused           number and place of a refusal
---   outVerdict, outSized, outTraced, outListed, outPart, outOrientation, outTransforms     the eight numbers for an answer
+--   outVerdict, outSized, outTraced, outPoints, outListed, outPart, outOrientation, outTransforms     the eight numbers for an answer
 use Prim.Native.Nat.{ℕ}
 use mathlib.Core.List.{List, [], _∷_}
 use mathlib.Core.Bool.{Bool, true, false}
@@ -9,6 +9,7 @@ use lib.ListN.{length}
 use Rattle.boxes.specs.Answer.{Answer, ok, refuse}
 use Rattle.pictures.specs.declared.Point.{Point}
 use Rattle.questions.specs.Questions as Q
+use Rattle.traced.specs.Told.{endNumber}
 use Rattle.facing.specs.Orientation.{Transform, irot, imir}
 
 abbrev pub outRefused : ℕ → ℕ → List ℕ
@@ -24,14 +25,15 @@ unfoldable pub outSized : Answer Q.Sized → List ℕ
 outSized (ok s) = 0 ∷ 0 ∷ s .reconstructed .wide ∷ s .reconstructed .high ∷ s .output .wide ∷ s .output .high ∷ s .depth ∷ 0 ∷ []
 outSized (refuse n p) = outRefused n p
 
--- "pixel or fill, item ID, x, y there, items passed": 1 stands for a pixel, 2 for a fill
-unfoldable pub endNumber : Bool → ℕ
-endNumber false = 1
-endNumber true = 2
-
+-- "pixel or fill, item ID, x, y there, items passed"
 unfoldable pub outTraced : Answer Q.Found → List ℕ
 outTraced (ok e) = 0 ∷ 0 ∷ endNumber (e .isFill) ∷ e .item ∷ e .at .x ∷ e .at .y ∷ e .passed ∷ 0 ∷ []
 outTraced (refuse n p) = outRefused n p
+
+-- Q-4: how many records were filled
+unfoldable pub outPoints : Answer ℕ → List ℕ
+outPoints (ok n) = 0 ∷ 0 ∷ n ∷ 0 ∷ 0 ∷ 0 ∷ 0 ∷ 0 ∷ []
+outPoints (refuse n p) = outRefused n p
 
 -- how many IDs were written
 unfoldable pub outListed : Answer (List ℕ) → List ℕ

@@ -12,6 +12,7 @@ ghost use Rattle.questions.specs.Questions as Q;
 ghost use Rattle.views.specs.inner.View.{TableOf};
 ghost use Rattle.asked.specs.Told.{toldVerdict, toldSized};
 ghost use Rattle.traced.specs.Told.{toldTraced};
+ghost use Rattle.seam.specs.Points.{toldPointsFilled};
 ghost use Rattle.sourced.specs.Told.{toldListed};
 ghost use Rattle.facing.specs.Orientation as Orientation;
 ghost use Rattle.facing.specs.Told.{toldOriented, toldTransform, toldTransforms};
@@ -20,6 +21,7 @@ ghost use Rattle.out.specs.Out.{
   outVerdict,
   outSized,
   outTraced,
+  outPoints,
   outListed,
   outPart,
   outOrientation,
@@ -33,6 +35,7 @@ use boxes::Refusal;
 use facing::Oriented;
 use facing::Transform;
 use facing::TransformList;
+use seam::PointsFilled;
 use sourced::Listed;
 use table::PropertyIndex;
 use table::Table;
@@ -94,6 +97,16 @@ pub fn traced_numbers(t: Traced) -> [u64; 8]
         Traced::Fill { item, x, y, passed } => {
             [0, 0, 2, item.0 as u64, x as u64, y as u64, passed as u64, 0]
         }
+    }
+}
+
+// How many records were filled.
+pub fn points_numbers(f: PointsFilled) -> [u64; 8]
+    ensures { λ r. ⌜ ((m : Answer ℕ) → f ≡ toldPointsFilled m → r ≡ outPoints m) ⌝ }
+{
+    match f {
+        PointsFilled::Refused(x) => refused_numbers(x),
+        PointsFilled::All(count) => [0, 0, count as u64, 0, 0, 0, 0, 0],
     }
 }
 

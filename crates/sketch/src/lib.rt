@@ -1,4 +1,5 @@
 // The picture of a picture: how an item of an accepted file is put together, from its output image down to the coded items; and the picture of a refusal.
+mod stroke;
 mod turns;
 
 ghost use mathlib.Core.Path.{_≡_};
@@ -417,8 +418,8 @@ fn put_title(head: &[u8], table: &[u32], row: ItemRow) {
     put(b"</text>\n");
 }
 
-// The picture of the picture in a row of an accepted file's table.
-pub fn draw_item(head: &[u8], table: &[u32], row: ItemRow) {
+// The picture of the picture in a row of an accepted file's table, and over it a seam through these points, if there are any.
+pub fn draw_item(head: &[u8], table: &[u32], row: ItemRow, points: &[[u32; 9]]) {
     let mut rows = [0u32; 2048];
     derived::resolve(table, &mut rows);
     let s = sizing::output_in(table, row);
@@ -439,7 +440,9 @@ pub fn draw_item(head: &[u8], table: &[u32], row: ItemRow) {
         left: 4096,
     };
     let left = draw_output(head, table, &rows, limit, row, lying);
+    stroke::put_seam(points, scale);
     canvas::close_picture(s, scale);
+    stroke::put_names(points);
     canvas::close_page(0 < left);
 }
 

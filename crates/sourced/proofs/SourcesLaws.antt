@@ -23,7 +23,6 @@ use Rattle.questions.specs.Questions.{sourcesIn, listAfter}
 use Rattle.rules.proofs.DerivationLaws.{shaped-drawn}
 use Rattle.rules.proofs.SceneLaws.{inputs-fed}
 use Rattle.depths.specs.inner.Inputs.{InputsAre}
-use Rattle.derived.specs.inner.Told.{Resolved}
 use Rattle.needed.specs.inner.Marked.{markedOf}
 use Rattle.needed.proofs.SourcesLaws.{marked-sources}
 use Rattle.judging.proofs.SceneLaws.{scene-long, inputs-are}
@@ -35,7 +34,7 @@ use Rattle.sourced.specs.Told.{toldListed}
 use Rattle.sourced.specs.declared.Listed.the-variants as listed
 
 -- sourcesIn
-module _ (t head : List ℕ) (total : ℕ) (f : File) (w : Shown t head total f) (id room : ℕ) (l : List ℕ) where
+module _ {t rows head : List ℕ} {total : ℕ} {f : File} (w : Shown t rows head total f) (id room : ℕ) (l : List ℕ) where
   abbrev s : Scene
   s = sceneOf total head f
 
@@ -55,13 +54,13 @@ module _ (t head : List ℕ) (total : ℕ) (f : File) (w : Shown t head total f)
     listed-row = picture-listed f id (r .0) is-row
 
     -- the marks of needed_of leave the sources
-    module _ (n : ℕ) (rows marks : List ℕ) (counted : n ≡ getD t 0 0) (resolved : Resolved t rows f)
+    module _ (n : ℕ) (marks : List ℕ) (counted : n ≡ getD t 0 0)
         (needed : (s : Scene) → length s ≡ n → InputsAre t rows s → r .0 < n → depth s (r .0) ≤ 16 → (c : ℕ) → c < n →
         eqb (getD marks c 0) 1 ≡ needs s (r .0) c) where
       pub sources-are : markedOf t marks n ≡ Sources.sources s (r .0)
       sources-are =
           let k : n ≡ length (f .items) = counted ∙ w .view .items in
-          let i = inputs-are total head f t rows (placesIn total head) (w .view) resolved (w .fed) in
+          let i = inputs-are total head f t rows (placesIn total head) (w .view) (w .resolved) (w .fed) in
           let g = good-picture s (w .good) (rw (scene-long total head f) listed-row)
           (shaped-drawn _ _ (inputs-fed total head f (r .0) (picture-image f id (r .0) is-row)
           (w .fed (r .0) listed-row) .0)) in

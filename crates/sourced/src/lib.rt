@@ -6,7 +6,6 @@ ghost use lib.ListN.{length};
 ghost use Rattle.contents.specs.File.{File};
 ghost use Rattle.rules.specs.Derivations.{sceneOf};
 ghost use Rattle.questions.specs.Questions.{sourcesIn, listAfter};
-ghost use Rattle.derived.specs.inner.Told.{Resolved};
 ghost use Rattle.tracing.specs.inner.Told.{Shown};
 ghost use Rattle.sourced.specs.Told.{toldListed};
 use asked::Pictured;
@@ -21,8 +20,7 @@ pub enum Listed {
 
 // The sources of an item of an accepted file's table, whose targets name `rows`, into a lent list: 21, 22, then 24.
 pub fn sources_in(table: &[u32], rows: &[u32], id: ItemId, list: &mut [u32]) -> Listed
-    ensures { λ r. ⌜ ((total : ℕ) (head : List ℕ) (f : File) → Shown (now (table .entry)) head total f →
-        Resolved (now (table .entry)) (now (rows .entry)) f →
+    ensures { λ r. ⌜ ((total : ℕ) (head : List ℕ) (f : File) → Shown (now (table .entry)) (now (rows .entry)) head total f →
         (r ≡ toldListed (sourcesIn (sceneOf total head f) f (id .0) (length (now (list .entry))))) ×
         (now (list .exit) ≡ listAfter (sourcesIn (sceneOf total head f) f (id .0) (length (now (list .entry))))
         (now (list .entry)))) ⌝ }

@@ -3,3 +3,7 @@ pub mod TraceLaws
 pub mod PropertyLaws
 pub mod SourcesLaws
 pub mod OrientationLaws
+pub mod PointsLaws
+pub mod Again
+pub mod Share
+pub mod LentArray

@@ -1,20 +1,22 @@
 -- Verdict and size, from opening to the answer; what is known of an accepted file's table. Assumes nothing.
-use Prim.Native.Nat.{ℕ, _<_}
+use Prim.Native.Nat.{ℕ, _≤_, _<_}
+use native.Mathlib.Omega.{arith}
 use mathlib.Core.Path.{_≡_}
 use mathlib.Core.List.{List}
 use lib.ListN.{length}
 use Rattle.boxes.specs.Answer.{ok, _>>=_}
 use Rattle.boxes.specs.declared.Refusal.{Refusal}
-use Rattle.contents.specs.File.{File}
+use Rattle.contents.specs.File.{File, readFile}
 use Rattle.rules.specs.Derivations.{sceneOf}
 use Rattle.rules.specs.Opening.{opened, after}
 use Rattle.questions.specs.Questions.{verdictIn, verdict, sizeIn, size}
 use Rattle.rules.proofs.RuleLaws.{judged-each, accepted-both}
 use Rattle.rules.proofs.SceneLaws.{accepted-scene}
+use Rattle.derived.specs.inner.Told.{Resolved}
 use Rattle.tracing.specs.inner.Told.{Shown}
 use Rattle.opening.specs.Told.{toldOpened}
 use Rattle.opening.specs.declared.Opened.the-variants as opens
-use Rattle.opening.proofs.FileLaws.{opened-refused, file-accepted, file-view, file-sizes}
+use Rattle.opening.proofs.FileLaws.{opened-refused, file-accepted, file-read, file-view, file-sizes}
 use Rattle.asked.specs.Told.{toldVerdict, toldSized}
 use Rattle.asked.specs.declared.FileVerdict.the-variants as verdicts
 use Rattle.asked.specs.declared.Sized.the-variants as sizes
@@ -42,8 +44,9 @@ module _ (total : ℕ) (head t : List ℕ) where
 
   -- its table shows all that a trace needs
   pub file-shown : total < 18446744073709551616 → (f : File) → opened (length t) total head ≡ ok f → (u : List ℕ) →
-      u ≡ after total head t → Shown u head total f
-  file-shown few f o u a =
+      u ≡ after total head t → (rows : List ℕ) (n : ℕ) → length rows ≡ n → 2048 ≤ n →
+      (readFile total head ≡ ok f → Resolved u rows f) → Shown u rows head total f
+  file-shown few f o u a rows n e many found =
       let k = file-accepted total head t few f o u a in
       let j = judged-each total head f (accepted-both total head f k .1) in
       record {
@@ -52,4 +55,6 @@ module _ (total : ℕ) (head t : List ℕ) where
         good = accepted-scene total head f k;
         placed = j .by-13-14;
         fed = j .by-17;
+        many = omega (arith, e, many);
+        resolved = found (file-read total head t few f o u a);
       }

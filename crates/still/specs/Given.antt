@@ -1,7 +1,7 @@
 -- What each public function promises, whole: for all heads, totals, tables, lists and numbers asked, the answer and
 -- every word that is left. The contracts cite these.
 --   VerdictGiven, SizeGiven, TraceGiven, SourcesGiven, OrientationGiven, AskedGiven, PropertyGiven, and TransformsGiven,
---   which reads no file;   PartPlaced, where a part that is returned lies
+--   which reads no file;   PartPlaced, where a part that is returned lies;   PointsGiven, with all records
 -- In each, r is what is returned, `left` the table afterwards, and `list` what was lent beside it, before and after,
 -- and `told` the two numbers that carry a refusal.
 use Prim.Native.Nat.{ℕ}
@@ -26,6 +26,10 @@ use Rattle.facing.specs.declared.Oriented.{Oriented}
 use Rattle.facing.specs.declared.TransformList.{TransformList}
 use Rattle.facing.specs.Orientation.{orientation, transformsIn}
 use Rattle.facing.specs.Told.{toldOriented, toldTransforms}
+use Rattle.seam.specs.declared.PointRecord.{PointRecord}
+use Rattle.seam.specs.declared.PointsFilled.{PointsFilled}
+use Rattle.seam.specs.Points.{points, singleTrace, recordsAfter, toldPointsFilled}
+use Rattle.seam.specs.Numbers.{numbersAfter}
 use Rattle.still.specs.Told.{indexOf, toldPart, toldFault}
 
 module _ (head : List ℕ) (total : ℕ) (table : List ℕ) where
@@ -59,6 +63,19 @@ module _ (head : List ℕ) (total : ℕ) (table : List ℕ) where
   abbrev pub PartPlaced : ℕ × ℕ → ℕ × ℕ → ℕ → ℕ → Type 0
   PartPlaced base place id k = (p : Q.Part) → Q.property (length table) total head id k ≡ ok p → (p .bytes ≡ [] → ⊥) →
       LiesAt base (p .offset) place
+
+  abbrev pub PointsGiven : ℕ → List PointRecord → PointsFilled → List PointRecord → List ℕ → Type 0
+  PointsGiven id records r records-left left =
+      (r ≡ toldPointsFilled (points (length table) total head id (length records)))
+      × ((records-left ≡ recordsAfter (points (length table) total head id (length records)) (singleTrace (length table) total head id) records)
+      × (left ≡ after total head table))
+
+  -- the same with records of nine numbers
+  abbrev pub PointNumbersGiven : ℕ → List (List ℕ) → PointsFilled → List (List ℕ) → List ℕ → Type 0
+  PointNumbersGiven id records r records-left left =
+      (r ≡ toldPointsFilled (points (length table) total head id (length records)))
+      × ((records-left ≡ numbersAfter (points (length table) total head id (length records)) (Q.trace (length table) total head id) records)
+      × (left ≡ after total head table))
 
 abbrev pub TransformsGiven : ℕ → TransformList → Type 0
 TransformsGiven n r = r ≡ toldTransforms (transformsIn n)

@@ -1,6 +1,13 @@
 // The public questions. Each call reads the file afresh; a table that was lent is the file's afterwards, or all 0 where
 // the file is refused. Each is thin: the file is opened (crate `opening`), then its table is asked (`asked`, `traced`,
-// `sourced`, `facing`).
+// `seam`, `sourced`, `facing`).
+ghost use mathlib.Core.Path.{_≡_};
+ghost use mathlib.Core.Logic.{_⊎_};
+ghost use Prim.Native.Nat.{_≤_};
+ghost use lib.ListN.{length};
+ghost use Rattle.rules.specs.Opening.{after};
+ghost use Rattle.seam.specs.Points as Points;
+ghost use Rattle.seam.specs.inner.Hand.{AtHand, countOf};
 ghost use Rattle.still.specs.Given.{
   VerdictGiven,
   SizeGiven,
@@ -11,6 +18,8 @@ ghost use Rattle.still.specs.Given.{
   AskedGiven,
   PropertyGiven,
   PartPlaced,
+  PointsGiven,
+  PointNumbersGiven,
 };
 use asked::FileVerdict;
 use asked::PropertyAsked;
@@ -19,6 +28,8 @@ use facing::Oriented;
 use facing::TransformList;
 use opening::Opened;
 use pictures::Point;
+use seam::PointRecord;
+use seam::PointsFilled;
 use sourced::Listed;
 use table::ItemId;
 use traced::Traced;
@@ -49,10 +60,30 @@ pub fn size(head: &[u8], total: u64, table: &mut [u32], id: ItemId) -> Sized
 pub fn trace(head: &[u8], total: u64, table: &mut [u32], id: ItemId, p: Point) -> Traced
     ensures { λ r. ⌜ TraceGiven (now (head .entry)) total (now (table .entry)) (id .0) p r (now (table .exit)) ⌝ }
 {
-    let o = opening::open_file(head, total, table);
+    let mut rows = [0u32; 2048];
+    let o = opening::open_rows(head, total, table, &mut rows);
     match o {
         Opened::Refused(f) => Traced::Refused(f),
-        Opened::Accepted => traced::trace_in(head, &*table, id, p),
+        Opened::Accepted => traced::trace_in(head, &*table, &rows, id, p),
+    }
+}
+
+// The same with records of nine numbers, as C lends them.
+pub fn point_numbers(
+    head: &[u8],
+    total: u64,
+    table: &mut [u32],
+    id: ItemId,
+    points: &mut [[u32; 9]],
+) -> PointsFilled
+    ensures { λ r. ⌜ PointNumbersGiven (now (head .entry)) total (now (table .entry)) (id .0) (now (points .entry)) r
+        (now (points .exit)) (now (table .exit)) ⌝ }
+{
+    let mut rows = [0u32; 2048];
+    let o = opening::open_rows(head, total, table, &mut rows);
+    match o {
+        Opened::Refused(f) => PointsFilled::Refused(f),
+        Opened::Accepted => seam::numbers_in(head, &*table, &rows, id, points),
     }
 }
 
@@ -128,4 +159,42 @@ pub fn property<'a>(
             views::property_box(head, &*table, index)
         }
     }
+}
+
+// Opens the file, and tells how many of n points are to be answered: 1 to 22, then 28.
+fn ready(
+    head: &[u8],
+    total: u64,
+    table: &mut [u32],
+    rows: &mut [u32],
+    id: ItemId,
+    n: usize,
+) -> PointsFilled
+    requires { ⌜ 2048 ≤ length (now rows) ⌝ }
+    ensures { λ r. ⌜ (r ≡ Points.toldPointsFilled (Points.points (length (now (table .entry))) total (now (head .entry)) (id .0) n))
+        × ((now (table .exit) ≡ after total (now (head .entry)) (now (table .entry)))
+        × ((countOf r ≡ 0) ⊎ AtHand (now (head .entry)) total (now (table .exit)) (now (rows .exit)))) ⌝ }
+{
+    let o = opening::open_rows(head, total, table, rows);
+    match o {
+        Opened::Refused(f) => PointsFilled::Refused(f),
+        Opened::Accepted => seam::points_in(&*table, id, n),
+    }
+}
+
+// Many points of an item at once, each answered in its own record as a single trace would answer it.
+pub fn points(
+    head: &[u8],
+    total: u64,
+    table: &mut [u32],
+    id: ItemId,
+    points: &mut [PointRecord],
+) -> PointsFilled
+    ensures { λ r. ⌜ PointsGiven (now (head .entry)) total (now (table .entry)) (id .0) (now (points .entry)) r (now (points .exit)) (now (table .exit)) ⌝ }
+{
+    let mut rows = [0u32; 2048];
+    let filled = ready(head, total, &mut *table, &mut rows, id, points.len());
+    let n = seam::count_of(filled);
+    seam::answer_all(head, total, &*table, &rows, id, n, points);
+    filled
 }

@@ -12,6 +12,7 @@ ghost use Rattle.still_c.specs.Given.{
   VerdictGiven,
   SizeGiven,
   TraceGiven,
+  PointsGiven,
   SourcesGiven,
   PropertyGiven,
   OrientationGiven,
@@ -60,6 +61,23 @@ pub extern "C" fn still_trace(
 {
     let t = still::trace(head, total, table, ItemId(item), Point { x, y });
     *out = out::traced_numbers(t);
+}
+
+// Where many output pixels of an item come from, each answered in its record of nine numbers.
+#[no_mangle]
+pub extern "C" fn still_points(
+    head: &[u8],
+    total: u64,
+    table: &mut [u32],
+    item: u32,
+    points: &mut [[u32; 9]],
+    out: &mut [u64; 8],
+)
+    ensures { λ _. ⌜ PointsGiven (now (head .entry)) total (now (table .entry)) item (now (points .entry))
+        (now (out .exit)) (now (points .exit)) (now (table .exit)) ⌝ }
+{
+    let f = still::point_numbers(head, total, table, ItemId(item), points);
+    *out = out::points_numbers(f);
 }
 
 // The coded items that an item needs, into `list`.

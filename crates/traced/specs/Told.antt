@@ -22,3 +22,8 @@ toldFound true e = traced.Fill (record { 0 = e .item }) (e .at .x) (e .at .y) (e
 unfoldable pub toldTraced : Answer Q.Found → Traced
 toldTraced (ok e) = toldFound (e .isFill) e
 toldTraced (refuse n p) = traced.Refused (record { number = n; place = p })
+
+-- "pixel or fill": 1 stands for a pixel, 2 for a fill, where an answer is numbers
+unfoldable pub endNumber : Bool → ℕ
+endNumber false = 1
+endNumber true = 2

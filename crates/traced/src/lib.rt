@@ -8,6 +8,7 @@ ghost use Rattle.contents.specs.File.{File};
 ghost use Rattle.pictures.specs.Trace as Trace;
 ghost use Rattle.rules.specs.Places.{Places};
 ghost use Rattle.rules.specs.Derivations.{sceneOf};
+ghost use Rattle.rules.specs.Opening.{pictured};
 ghost use Rattle.questions.specs.Questions.{traceIn, foundBy};
 ghost use Rattle.views.specs.inner.View.{TableOf};
 ghost use Rattle.tracing.specs.inner.Told.{Shown, toldEnd};
@@ -16,6 +17,7 @@ use asked::Pictured;
 use boxes::Refusal;
 use pictures::Point;
 use table::ItemId;
+use table::ItemRow;
 use tracing::End;
 
 pub enum Traced {
@@ -56,23 +58,40 @@ fn ended(table: &[u32], e: End) -> Traced
     }
 }
 
+// The trace of an output pixel of the picture in a row, that of the asked ID: 23 where it lies outside.
+pub fn trace_at(
+    head: &[u8],
+    table: &[u32],
+    rows: &[u32],
+    id: ItemId,
+    row: ItemRow,
+    p: Point,
+) -> Traced
+    ensures { λ r. ⌜ ((total : ℕ) (f : File) →
+        Shown (now (table .entry)) (now (rows .entry)) (now (head .entry)) total f → pictured f (id .0) ≡ ok (row .0) →
+        r ≡ toldTraced (traceIn (sceneOf total (now (head .entry)) f) f (id .0) p)) ⌝ }
+{
+    let s = sizing::output_in(table, row);
+    if s.wide <= p.x {
+        return Traced::Refused(asked::refusal(23, id));
+    }
+    if s.high <= p.y {
+        return Traced::Refused(asked::refusal(23, id));
+    }
+    ended(
+        table,
+        tracing::trace_output(head, table, rows, 16, 0, row, p),
+    )
+}
+
 // The trace of an output pixel of an item of an accepted file's table: 21, 22, then 23.
-pub fn trace_in(head: &[u8], table: &[u32], id: ItemId, p: Point) -> Traced
-    ensures { λ r. ⌜ ((total : ℕ) (f : File) → Shown (now (table .entry)) (now (head .entry)) total f →
+pub fn trace_in(head: &[u8], table: &[u32], rows: &[u32], id: ItemId, p: Point) -> Traced
+    ensures { λ r. ⌜ ((total : ℕ) (f : File) → Shown (now (table .entry)) (now (rows .entry)) (now (head .entry)) total f →
         r ≡ toldTraced (traceIn (sceneOf total (now (head .entry)) f) f (id .0) p)) ⌝ }
 {
     let r = asked::picture_row(table, id);
     match r {
         Pictured::Refused(f) => Traced::Refused(f),
-        Pictured::At(row) => {
-            let s = sizing::output_in(table, row);
-            if s.wide <= p.x {
-                return Traced::Refused(asked::refusal(23, id));
-            }
-            if s.high <= p.y {
-                return Traced::Refused(asked::refusal(23, id));
-            }
-            ended(table, tracing::trace_output(head, table, 16, 0, row, p))
-        }
+        Pictured::At(row) => trace_at(head, table, rows, id, row, p),
     }
 }

@@ -1,16 +1,17 @@
 -- The topmost of an overlay's inputs that covers a point, found from the last one down. Assumes nothing.
-use Prim.Native.Nat.{ℕ, zero, suc, _+_, _*_, _^_, _≤_, _<_}
+use Prim.Native.Nat.{ℕ, zero, suc, _+_, _*_, _-_, _≤_, _<_}
 use native.Mathlib.Omega.{arith}
 use mathlib.Core.Path.{_≡_, refl, sym, ap, subst, _∙_}
 use mathlib.Core.List.{List, [], _∷_}
 use mathlib.Core.Bool.{true, false}
 use mathlib.Core.Logic.{_⊎_, inl, inr}
-use lib.ListN.{length, getD, take}
-use lib.Seq.{take-all}
-use lib.Dec.{eqb}
+use lib.ListN.{length, getD, take, drop, length-drop}
+use lib.Seq.{take-all, length-take-le, getD-take, getD-drop, ext-getD}
+use lib.Dec.{ltb, eqb}
+use borrow.Author.Tests.{lt-ltb, le-ltb}
 use Rattle.fields.specs.Choice.{pick}
 use Rattle.fields.specs.Field.{beAt}
-use Rattle.fields.proofs.FieldLaws.{pick-yes, pick-no, both, Bytes, be-below}
+use Rattle.fields.proofs.FieldLaws.{pick-yes, pick-no}
 use Rattle.fields.proofs.TestLaws.{both-and, and-none}
 use Rattle.boxes.specs.Answer.{ok}
 use Rattle.boxes.specs.Types.{iden, grid, iovl, derived, image}
@@ -18,81 +19,33 @@ use Rattle.forms.specs.Form.{whole}
 use Rattle.forms.proofs.WholeLaws.{whole-sound}
 use Rattle.contents.specs.Iinf.{Item}
 use Rattle.contents.specs.File.{File}
-use Rattle.table.specs.declared.ItemRow.{ItemRow}
-use Rattle.pictures.specs.declared.Size.{Size}
 use Rattle.pictures.specs.declared.Point.{Point}
-use Rattle.pictures.specs.declared.SideFound.{SideFound}
-use Rattle.pictures.specs.declared.SideFound.the-variants as side
 use Rattle.pictures.specs.Turn.{point}
 use Rattle.pictures.specs.declared.OverlayRead.the-variants as layers
-use Rattle.pictures.specs.Signed.{Signed, signed}
 use Rattle.pictures.specs.Recipe.{Recipe, Layers, Offset, Overlay, fieldBytes, iovl-form}
-use Rattle.pictures.specs.Scene.{Picture, Scene, pictureAt, outputOf}
+use Rattle.pictures.specs.Scene.{Scene, pictureAt, outputOf}
 use Rattle.pictures.specs.Trace.{blank, input, onSide, alongSide, covers, layerAt, sourceBy, sourceOf}
 use Rattle.pictures.specs.Trace as Trace
-use Rattle.pictures.specs.inner.Told.{toldSide, toldOverlay}
+use Rattle.pictures.specs.inner.Told.{toldOverlay}
 use Rattle.pictures.proofs.RefusedLaws.{refused-ok}
 use Rattle.pictures.proofs.RecipeLaws.{iovl-offsets}
 use Rattle.pictures.proofs.OverlayLaws.{offsetAt, overlay-bytes, overlay-offset, told-overlay, told-no-overlay}
 use Rattle.rules.specs.Joined.{targetsOf, rowOf, itemAt}
 use Rattle.rules.specs.Derivations.{layersOf, itsBody, sceneOf}
 use Rattle.rules.proofs.SceneLaws.{recipe-ok}
-use Rattle.views.specs.inner.View.{SizesAre, idOf}
+use Rattle.views.specs.inner.View.{SizesAre, recordWord, idOf}
+use Rattle.views.proofs.LookupLaws.{row-listed}
+use Rattle.views.proofs.TableLaws.{row-small}
 use Rattle.derived.specs.inner.Told.{bodyOr}
-use Rattle.sizing.proofs.SizesLaws.{scene-inputs, scene-input, scene-input-size}
+use Rattle.derived.proofs.InputLaws.{input-row}
+use Rattle.sizing.proofs.SizesLaws.{scene-many, scene-inputs, scene-input}
 use Rattle.rules.proofs.DerivationLaws.{body-read}
 use Rattle.pictures.proofs.GridLaws.{two-or-four}
-use Rattle.tracing.specs.inner.Told.{Shown, toldSource, toldCovered}
+use Rattle.tracing.specs.inner.Told.{Shown, toldSource}
 use Rattle.tracing.specs.declared.Source.{Source}
 use Rattle.tracing.specs.declared.Source.the-variants as source
-use Rattle.tracing.specs.declared.Covered.{Covered}
-use Rattle.tracing.specs.declared.Covered.the-variants as covered
+use Rattle.tracing.proofs.SideLaws.{FarBy}
 use Rattle.tracing.proofs.TileLaws.{derived-by}
-
--- toldSide
-side-along : (o : Signed) (v n a : ℕ) → side.Along a ≡ toldSide o v n → (onSide o v n ≡ true) × (alongSide o v ≡ a)
-unfolding toldSide
-side-along o v n a = both (λ (m : SideFound). side.Along a ≡ m → (onSide o v n ≡ true) × (alongSide o v ≡ a)) _ _ _
-    (λ q e. let z : alongSide o v ≡ a = cc in (q, z)) (λ q e. let z : _≡_ {A = ℕ} 0 1 = cc in absurd (omega arith))
-
-side-off : (o : Signed) (v n : ℕ) → side.Off ≡ toldSide o v n → onSide o v n ≡ false
-unfolding toldSide
-side-off o v n = both (λ (m : SideFound). side.Off ≡ m → onSide o v n ≡ false) _ _ _ (λ q e. let z : _≡_ {A = ℕ} 0 1 = cc in absurd (omega arith)) (λ q e. q)
-
--- toldSide of the number that the bytes b spell
-pub side-read : (b : List ℕ) (at w v n o : ℕ) (x : SideFound) → Bytes b → (w ≡ 2) ⊎ (w ≡ 4) → o ≡ beAt b at w →
-    ((w ≡ 2) ⊎ (w ≡ 4) → o < 256 ^ w → x ≡ toldSide (signed w o) v n) → x ≡ toldSide (signed w (beAt b at w)) v n
-side-read b at w v n o x given two e f = f two (rw e (be-below b at w given)) ∙ ap (λ (o : ℕ). toldSide (signed w o) v n) e
-
--- toldCovered: by the two sides
-module _ (o : Offset) (s : Size) (p : Point) where
-  pub covered-off-x : side.Off ≡ toldSide (o .right) (p .x) (s .wide) → covered.Off ≡ toldCovered o s p
-  unfolding toldCovered
-  covered-off-x e = sym (pick-no _ _ (rw (side-off (o .right) (p .x) (s .wide) e)))
-
-  pub covered-off-y : side.Off ≡ toldSide (o .down) (p .y) (s .high) → covered.Off ≡ toldCovered o s p
-  unfolding toldCovered
-  covered-off-y e = sym (pick-no _ _ (and-none (onSide (o .right) (p .x) (s .wide)) (onSide (o .down) (p .y) (s .high))
-      (side-off (o .down) (p .y) (s .high) e)))
-
-  pub covered-on : (x y : ℕ) → side.Along x ≡ toldSide (o .right) (p .x) (s .wide) →
-      side.Along y ≡ toldSide (o .down) (p .y) (s .high) → covered.At (point x y) ≡ toldCovered o s p
-  unfolding toldCovered
-  covered-on x y ex ey =
-      let a = side-along (o .right) (p .x) (s .wide) x ex in
-      let b = side-along (o .down) (p .y) (s .high) y ey in
-      sym (pick-yes _ _ (both-and _ _ (a .0) (b .0)) ∙ rw (a .1, b .1))
-
-  told-on : (q : Point) → covered.At q ≡ toldCovered o s p → (covers o s p ≡ true) × (point (alongSide (o .right) (p .x)) (alongSide (o .down) (p .y)) ≡ q)
-  unfolding toldCovered
-  told-on q = both (λ (m : Covered). covered.At q ≡ m → (covers o s p ≡ true) ×
-      (point (alongSide (o .right) (p .x)) (alongSide (o .down) (p .y)) ≡ q)) _ _ _ (λ c e. let z : point
-      (alongSide (o .right) (p .x)) (alongSide (o .down) (p .y)) ≡ q = cc in (c, z)) (λ c e. let z : _≡_ {A = ℕ} 0 1 =
-      cc in absurd (omega arith))
-
-  told-off : covered.Off ≡ toldCovered o s p → covers o s p ≡ false
-  unfolding toldCovered
-  told-off = both (λ (m : Covered). covered.Off ≡ m → covers o s p ≡ false) _ _ _ (λ c e. let z : _≡_ {A = ℕ} 0 1 = cc in absurd (omega arith)) (λ c e. c)
 
 -- layerAt: the last of the first inputs lies on top
 layer-last : (s : Scene) (os : List Offset) (is : List ℕ) (k : ℕ) (p : Point) (b : Trace.Source) (d : Offset) → k < length os → k < length is
@@ -105,15 +58,6 @@ layer-last s [] is k p b d h l = absurd (omega arith)
 layer-last s (o ∷ os) [] k p b d h l = absurd (omega arith)
 layer-last s (o ∷ os) (i ∷ is) zero p b d h l = refl
 layer-last s (o ∷ os) (i ∷ is) (suc k) p b d h l = layer-last s os is k p _ d (omega arith) (omega arith)
-
-module _ (s : Scene) (os : List Offset) (is : List ℕ) (p : Point) where
-  -- what is left where the first n are all, or none are
-  pub layer-all : (n : ℕ) → length os ≡ n → length is ≡ n → layerAt s os is p blank ≡ layerAt s (take n os) (take n is) p blank
-  layer-all n h l = rw (take-all n os (omega arith), take-all n is (omega arith))
-
-  pub layer-none : (k : ℕ) → k ≡ 0 → layerAt s os is p blank ≡ layerAt s (take k os) (take k is) p blank → source.Blank ≡ toldSource (layerAt s os is p blank)
-  unfolding layerAt toldSource
-  layer-none k z w = let e : layerAt s (take k os) (take k is) p blank ≡ blank = rw z in sym (ap toldSource (w ∙ e))
 
 -- where the offset of input k of n stands in a body of so many bytes, in numbers of w bytes
 pub record OffsetIn (w k long : ℕ) : Type 0 where
@@ -130,71 +74,130 @@ offset-in w k n long (inr h) l few e =
     let b : 2 * w * n ≡ 8 * n = rw h in
     record { far = omega arith; room = omega arith }
 
--- Shown: an overlay in row r
-module _ {t head : List ℕ} {total : ℕ} {f : File} (v : Shown t head total f) (r : ℕ) (i : image (itemAt f r .type) ≡ true) where
-  abbrev s : Scene
-  s = sceneOf total head f
+-- an overlay o of a scene, read from its body b in numbers of w bytes; the first n of a list of rows are its inputs
+module _ {t : List ℕ} {s : Scene} (v : SizesAre t s) (inputs b : List ℕ) (n w : ℕ) (room : n ≤ length inputs) (ew : w ≡ fieldBytes (beAt b 1 1))
+    (there : (k : ℕ) → k < n → getD inputs k 0 < length s) (o : Overlay) (e : whole (iovl-form n) 0 b ≡ ok o) (p : Point) where
+  offsets-many : length (o .offsets) ≡ n
+  offsets-many = iovl-offsets n b o (whole-sound (iovl-form n) 0 b o e)
 
-  abbrev q : Picture
-  q = pictureAt s r
+  abbrev Below : ℕ → Type 0
+  Below k = layerAt s (o .offsets) (take n inputs) p blank ≡ layerAt s (take k (o .offsets)) (take k inputs) p blank
 
-  abbrev targets : List ℕ
-  targets = targetsOf f (idOf f r)
+  pub layers-all : Below n
+  layers-all = rw (take-all n (o .offsets) (omega (arith, offsets-many)))
 
-  -- the layers of an overlay o that is read from its body b
-  module _ (b : List ℕ) (n : ℕ) (p : Point) (o : Overlay) (e : whole (iovl-form n) 0 b ≡ ok o) (c : n ≡ length targets) where
-    offsets-many : length (o .offsets) ≡ n
-    offsets-many = iovl-offsets n b o (whole-sound (iovl-form n) 0 b o e)
+  pub layers-none : (k : ℕ) → k ≡ 0 → Below k → source.Blank ≡ toldSource (layerAt s (o .offsets) (take n inputs) p blank)
+  unfolding layerAt toldSource
+  layers-none k z inv = let e : layerAt s (take k (o .offsets)) (take k inputs) p blank ≡ blank = rw z in sym (ap toldSource (inv ∙ e))
 
-    pub overlay-all : layerAt s (o .offsets) (q .inputs) p blank ≡ layerAt s (take n (o .offsets)) (take n (q .inputs)) p blank
-    overlay-all = layer-all s (o .offsets) (q .inputs) p n offsets-many (scene-inputs total head f r i ∙ sym c)
+  -- input k
+  module _ (m k : ℕ) (down : m ≡ suc k) (h : k < n) (inv : Below m) where
+    abbrev i : ℕ
+    i = getD inputs k 0
 
-    -- input k, in the row x, with the output size z
-    module _ (w : ℕ) (ew : w ≡ fieldBytes (beAt b 1 1)) (m k : ℕ) (down : m ≡ suc k) (h : k < n) (x : ItemRow)
-        (ex : k < length targets → x .0 ≡ rowOf (getD targets k 0) (f .items)) (z : Size)
-        (ez : (s : Scene) → SizesAre t s → x .0 < length s → z ≡ outputOf (pictureAt s (x .0)))
-        (inv : layerAt s (o .offsets) (q .inputs) p blank ≡ layerAt s (take m (o .offsets)) (take m (q .inputs)) p blank) where
-      abbrev here : Offset
-      here = offsetAt b w (10 + 2 * w + 2 * w * k)
+    abbrev here : Offset
+    here = offsetAt b w (10 + 2 * w + 2 * w * k)
 
-      listed : k < length targets
-      listed = omega arith
+    offset-here : getD (o .offsets) k here ≡ here
+    offset-here = rw ew (overlay-offset 0 b n o e k h
+        (offsetAt b (fieldBytes (beAt b 1 1)) (10 + 2 * fieldBytes (beAt b 1 1) + 2 * fieldBytes (beAt b 1 1) * k)))
 
-      offset-here : getD (o .offsets) k here ≡ here
-      offset-here = rw ew (overlay-offset 0 b n o e k h
-          (offsetAt b (fieldBytes (beAt b 1 1)) (10 + 2 * fieldBytes (beAt b 1 1) + 2 * fieldBytes (beAt b 1 1) * k)))
+    layers-next : layerAt s (o .offsets) (take n inputs) p blank ≡ pick (covers here (outputOf (pictureAt s i)) p)
+        (input i (point (alongSide (here .right) (p .x)) (alongSide (here .down) (p .y))))
+        (layerAt s (take k (o .offsets)) (take k inputs) p blank)
+    layers-next =
+        inv
+        ∙ ap (λ (m : ℕ). layerAt s (take m (o .offsets)) (take m inputs) p blank) down
+        ∙ layer-last s (o .offsets) inputs k p blank here (omega (arith, offsets-many)) (omega arith)
+        ∙ rw offset-here
 
-      row-here : x .0 ≡ getD (q .inputs) k 0
-      row-here = ex listed ∙ sym (scene-input total head f r i k listed)
+    pub input-there : 256 ≤ i → ⊥
+    input-there l = omega (arith, there k h, v .few)
 
-      size-here : z ≡ outputOf (pictureAt s (getD (q .inputs) k 0))
-      size-here = scene-input-size total head f r i (v .view) (v .sizes) k listed (x .0) (ex listed) z ez
+    -- x, y: how far p lies from the input's left and upper edge
+    module _ (x : ℕ) (fx : FarBy (here .right) (p .x) (getD t (16 * i + 28) 0) x) where
+      wide-is : getD t (16 * i + 28) 0 ≡ outputOf (pictureAt s i) .wide
+      wide-is = let z : 16 * i + 28 ≡ 16 + 16 * i + 12 = omega arith in ap (λ (a : ℕ). getD t a 0) z ∙ v .output-wide i (there k h)
 
-      overlay-next : layerAt s (o .offsets) (q .inputs) p blank ≡ pick (covers here z p)
-          (input (x .0) (point (alongSide (here .right) (p .x)) (alongSide (here .down) (p .y))))
-          (layerAt s (take k (o .offsets)) (take k (q .inputs)) p blank)
-      overlay-next =
-          inv
-          ∙ ap (λ (m : ℕ). layerAt s (take m (o .offsets)) (take m (q .inputs)) p blank) down
-          ∙ layer-last s (o .offsets) (q .inputs) k p blank here (omega (arith, offsets-many)) (omega (arith, scene-inputs total head f r i))
-          ∙ rw (offset-here, size-here, ← row-here)
+      on-x : onSide (here .right) (p .x) (outputOf (pictureAt s i) .wide) ≡ ltb x (getD t (16 * i + 28) 0)
+      on-x = rw (← wide-is) (fx .0)
 
-      module _ (y : Covered) (told : y ≡ toldCovered here z p) where
-        pub overlay-on : (a : Point) → y ≡ covered.At a → source.Input x a ≡ toldSource (layerAt s (o .offsets) (q .inputs) p blank)
+      pub layers-off-x : getD t (16 * i + 28) 0 ≤ x → Below k
+      layers-off-x l = layers-next ∙ pick-no _ _ (rw (on-x, le-ltb x _ l))
+
+      module _ (y : ℕ) (fy : FarBy (here .down) (p .y) (getD t (16 * i + 28 + 1) 0) y) where
+        high-is : getD t (16 * i + 28 + 1) 0 ≡ outputOf (pictureAt s i) .high
+        high-is = let z : 16 * i + 28 + 1 ≡ 16 + 16 * i + 13 = omega arith in ap (λ (a : ℕ). getD t a 0) z ∙ v .output-high i (there k h)
+
+        on-y : onSide (here .down) (p .y) (outputOf (pictureAt s i) .high) ≡ ltb y (getD t (16 * i + 28 + 1) 0)
+        on-y = rw (← high-is) (fy .0)
+
+        pub layers-off-y : getD t (16 * i + 28 + 1) 0 ≤ y → Below k
+        layers-off-y l = layers-next ∙ pick-no _ _
+            (and-none (onSide (here .right) (p .x) (outputOf (pictureAt s i) .wide)) _ (on-y ∙ le-ltb y _ l))
+
+        pub layers-on : x < getD t (16 * i + 28) 0 → y < getD t (16 * i + 28 + 1) 0 →
+            source.Input (record { 0 = i }) (point x y) ≡ toldSource (layerAt s (o .offsets) (take n inputs) p blank)
         unfolding toldSource
-        overlay-on a g = let on = told-on here z p a (sym g ∙ told) in sym (ap toldSource (overlay-next ∙ pick-yes _ _ (on .0) ∙ ap (input (x .0)) (on .1)))
+        layers-on lx ly =
+            let z : point (alongSide (here .right) (p .x)) (alongSide (here .down) (p .y)) ≡ point x y = rw (fx .1 lx, fy .1 ly) in
+            let c = both-and _ _ (on-x ∙ lt-ltb x _ lx) (on-y ∙ lt-ltb y _ ly) in
+            sym (ap toldSource (layers-next ∙ pick-yes _ _ c ∙ ap (input i) z))
 
-        pub overlay-off : y ≡ covered.Off → layerAt s (o .offsets) (q .inputs) p blank ≡ layerAt s (take k (o .offsets)) (take k (q .inputs)) p blank
-        overlay-off g = overlay-next ∙ pick-no _ _ (told-off here z p (sym g ∙ told))
+-- what a body of an overlay of n inputs is known by, in numbers of w bytes
+abbrev pub Body : List ℕ → ℕ → ℕ → Type 0
+Body b n w = ((w ≡ 2) ⊎ (w ≡ 4)) × (n ≤ 2048) × (length b ≡ 10 + 2 * w + 2 * w * n) × (w ≡ fieldBytes (beAt b 1 1))
+
+-- a list of rows from `first` on
+module _ (rows : List ℕ) (first : ℕ) where
+  abbrev rest : List ℕ
+  rest = take (length rows - first) (drop first rows)
+
+  rest-is : rest ≡ drop first rows
+  rest-is = take-all (length rows - first) (drop first rows) (rw length-drop (omega arith))
+
+  pub rest-long : (n : ℕ) → first + n ≤ 2048 → 2048 ≤ length rows → n ≤ length rest
+  rest-long n l m = rw (rest-is, length-drop) (omega arith)
+
+-- Shown: an overlay in row r, its inputs being named from `first` on
+module _ {t rows head : List ℕ} {total : ℕ} {f : File} (v : Shown t rows head total f) (r : ℕ) (h : r < length (f .items))
+    (n : ℕ) (c : n ≡ length (targetsOf f (idOf f r))) (first : ℕ) (ef : r < 256 → first ≡ recordWord t r 5) where
+  pub inputs-inside : first + n ≤ 2048
+  inputs-inside = omega (arith, ef (row-small (v .view) r h), v .view .target-room r h, v .view .bounded .few-targets)
+
+  row-said : (k : ℕ) → k < n → getD (rest rows first) k 0 ≡ rowOf (getD (targetsOf f (idOf f r)) k 0) (f .items)
+  row-said k l = input-row (v .view) r h rows (v .resolved) k (omega arith) first _ ef
+      (ap (λ (x : List ℕ). getD x k 0) (rest-is rows first) ∙ getD-drop first rows k 0)
+
+  row-there : (k : ℕ) → k < n → getD (rest rows first) k 0 < length (sceneOf total head f)
+  row-there k l = omega (
+    arith,
+    row-said k l,
+    row-listed (f .items) (getD (targetsOf f (idOf f r)) k 0) (v .view .sound .listed (idOf f r) k (omega arith)),
+    scene-many total head f,
+  )
+
+  module _ (i : image (itemAt f r .type) ≡ true) where
+    rows-are : take n (rest rows first) ≡ pictureAt (sceneOf total head f) r .inputs
+    rows-are =
+        let l = length-take-le n (rest rows first) (rest-long rows first n inputs-inside (v .many)) in
+        ext-getD 0 (take n (rest rows first)) (pictureAt (sceneOf total head f) r .inputs) (omega (arith, l, scene-inputs total head f r i))
+        (λ k b. getD-take n (rest rows first) k 0 (omega arith) ∙ row-said k (omega arith) ∙ sym (scene-input total head f r i k (omega arith)))
+
+    pub layers-shown : (p : Point) (o : Overlay) (x : Source) → ((s : Scene) → SizesAre t s →
+        ((k : ℕ) → k < n → getD (rest rows first) k 0 < length s) →
+        x ≡ toldSource (layerAt s (o .offsets) (take n (rest rows first)) p blank))
+        → x ≡ toldSource (layerAt (sceneOf total head f) (o .offsets) (pictureAt (sceneOf total head f) r .inputs) p blank)
+    layers-shown p o x g =
+        g (sceneOf total head f) (v .sizes) row-there ∙
+        ap (λ (is : List ℕ). toldSource (layerAt (sceneOf total head f) (o .offsets) is p blank)) rows-are
 
 -- what read_overlay says of the body
-pub overlay-read : (b : List ℕ) (n w h k : ℕ) → layers.Is w h k ≡ toldOverlay b (whole (iovl-form n) 0 b) →
-    (((k ≡ 2) ⊎ (k ≡ 4)) × (length b ≡ 10 + 2 * k + 2 * k * n) × (k ≡ fieldBytes (beAt b 1 1)))
-overlay-read b n w h k e =
+pub overlay-read : (b : List ℕ) (n w h k : ℕ) → n ≤ 2048 → layers.Is w h k ≡ toldOverlay b (whole (iovl-form n) 0 b) → Body b n k
+overlay-read b n w h k few e =
     let o = told-overlay b _ w h k (sym e) in
     let x = overlay-bytes 0 b n (o .overlay) (o .is) in
-    subst (λ (k : ℕ). ((k ≡ 2) ⊎ (k ≡ 4)) × (length b ≡ 10 + 2 * k + 2 * k * n) × (k ≡ fieldBytes (beAt b 1 1)))
-    (o .bytes) (two-or-four (beAt b 1 1), x .0, refl)
+    subst (Body b n) (o .bytes) (two-or-four (beAt b 1 1), few, x .0, refl)
 
 -- layersOf
 module _ (total : ℕ) (head : List ℕ) (f : File) (item : Item) (r : Recipe) where
@@ -208,7 +211,7 @@ module _ (total : ℕ) (head : List ℕ) (f : File) (item : Item) (r : Recipe) w
       (x .2, rw e (x .3), sym (x .5))
 
 -- Shown: an `iovl` item whose body is b, of n inputs
-module _ {t head : List ℕ} {total : ℕ} {f : File} (v : Shown t head total f) (r : ℕ) (h : r < length (f .items))
+module _ {t rows head : List ℕ} {total : ℕ} {f : File} (v : Shown t rows head total f) (r : ℕ) (h : r < length (f .items))
     (e : itemAt f r .type ≡ iovl) (b : List ℕ) (body : b ≡ bodyOr (itsBody total head f (itemAt f r))) (n : ℕ)
     (c : n ≡ length (targetsOf f (idOf f r))) where
   layers-kept : (o : Overlay) × (whole (iovl-form n) 0 b ≡ ok o) × (pictureAt (sceneOf total head f) r .recipe ≡ Layers o)

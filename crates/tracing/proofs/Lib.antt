@@ -1,5 +1,6 @@
-pub mod InputLaws
 pub mod TileLaws
+pub mod NextLaws
 pub mod UndoneLaws
+pub mod SideLaws
 pub mod LayerLaws
 pub mod TraceLaws

@@ -73,7 +73,7 @@ module _ (total : ℕ) (head : List ℕ) (f : File) (item : Item) (r : Recipe) (
 tiles-drawn : (g : Grid) → Tiles g ≡ Opaque → ⊥
 tiles-drawn g e = let z : _≡_ {A = ℕ} 0 1 = cc in absurd (omega arith)
 
-module _ {t head : List ℕ} {total : ℕ} {f : File} (d : Shown t head total f) (r : ℕ) (h : r < length (f .items)) where
+module _ {t rows head : List ℕ} {total : ℕ} {f : File} (d : Shown t rows head total f) (r : ℕ) (h : r < length (f .items)) where
   abbrev s : Scene
   s = sceneOf total head f
 

@@ -79,7 +79,7 @@ unfolding traced follow
 traced-last undo s n i p j q e = rw e
 
 -- Shown: the picture of an image item
-module _ {t head : List ℕ} {total : ℕ} {f : File} (v : Shown t head total f) where
+module _ {t rows head : List ℕ} {total : ℕ} {f : File} (v : Shown t rows head total f) where
   abbrev s : Scene
   s = sceneOf total head f
 

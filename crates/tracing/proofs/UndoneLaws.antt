@@ -1,11 +1,13 @@
 -- Undoing an item's transforms, box by box. Assumes nothing.
 --   LeadsBack ts s p r    undoing ts from a pixel p of the output leads to r
-use Prim.Native.Nat.{ℕ, _+_, _≤_, _<_}
+use Prim.Native.Nat.{ℕ, zero, suc, _+_, _≤_, _<_}
+use native.Mathlib.Omega.{arith}
 use mathlib.Core.Path.{_≡_, refl, sym, ap, _∙_, subst}
-use mathlib.Core.List.{List, [], _∷_}
+use mathlib.Core.List.{List, [], _∷_, map}
 use mathlib.Core.Bool.{true, false}
-use lib.ListN.{length, getD, drop, drop-of-length-le}
-use Rattle.fields.proofs.FieldLaws.{pick-yes, pick-no}
+use lib.ListN.{length, getD, drop, length-drop, drop-of-length-le}
+use lib.Seq.{getD-drop, drop-drop}
+use Rattle.fields.proofs.FieldLaws.{pick-yes, pick-no, both}
 use Rattle.boxes.specs.Box.{kindOf, bodyOf}
 use Rattle.contents.specs.File.{File}
 use Rattle.pictures.specs.declared.Size.{Size}
@@ -18,7 +20,9 @@ use Rattle.pictures.proofs.TurnLaws.{inside-undone}
 use Rattle.rules.specs.Joined.{associationsOf, boxesOf, typesOf}
 use Rattle.rules.specs.Places.{Places}
 use Rattle.views.specs.inner.View.{TableOf}
+use Rattle.declared.proofs.NamedLaws.{boxes-many, types-many}
 use Rattle.declared.proofs.SizeLaws.{boxes-left, kind-said, turn-read}
+use Rattle.tracing.specs.inner.Told.{firstTransform}
 
 -- turnsOf: the box b at the front
 module _ (s : Size) (b : List ℕ) (bs : List (List ℕ)) where
@@ -46,18 +50,58 @@ back-turn t ts s p q r h k fit i =
     k (fit .0) (subst (Inside (sizeAfter t s)) (sym e) (inside-undone ts (sizeAfter t s) p (fit .1) i)) ∙ ap (back t s) e
 
 -- past the last box
-pub undone-none : (bs : List (List ℕ)) (j : ℕ) → length bs ≤ j → (s : Size) (p : Point) → LeadsBack (turnsOf s (drop j bs)) s p p
+undone-none : (bs : List (List ℕ)) (j : ℕ) → length bs ≤ j → (s : Size) (p : Point) → LeadsBack (turnsOf s (drop j bs)) s p p
 unfolding turnsOf
 undone-none bs j h s p = subst (λ (l : List (List ℕ)). LeadsBack (turnsOf s l) s p p) (sym (drop-of-length-le bs h)) (back-none s p)
+
+-- firstTransform
+first-found : (ks : List ℕ) → firstTransform ks < length ks → transform (getD ks (firstTransform ks) 0) ≡ true
+unfolding firstTransform
+first-found [] h = absurd (omega arith)
+first-found (k ∷ ks) h =
+    both (λ (m : ℕ). m < suc (length ks) → transform (getD (k ∷ ks) m 0) ≡ true) (transform k) 0 _
+    (λ e h. e) (λ e (l : suc (firstTransform ks) < suc (length ks)). first-found ks (omega arith)) h
+
+-- turnsOf: what stands before the first transform turns nothing
+turns-first : (s : Size) (bs : List (List ℕ)) → turnsOf s (drop (firstTransform (map (λ (b : List ℕ). kindOf b) bs)) bs) ≡ turnsOf s bs
+unfolding firstTransform
+turns-first s [] = refl
+turns-first s (b ∷ bs) =
+    both (λ (m : ℕ). turnsOf s (drop m (b ∷ bs)) ≡ turnsOf s (b ∷ bs)) _ _ _
+    (λ e. refl) (λ e. turns-first s bs ∙ sym (turns-other s b bs e))
+
+drop-map : (j : ℕ) (bs : List (List ℕ)) → drop j (map (λ (b : List ℕ). kindOf b) bs) ≡ map (λ (b : List ℕ). kindOf b) (drop j bs)
+drop-map zero bs = refl
+drop-map (suc j) [] = refl
+drop-map (suc j) (b ∷ bs) = drop-map j bs
+
+-- m is where the first transform from the box with number j on stands
+module _ (f : File) (id j m : ℕ) (e : m ≡ j + firstTransform (drop j (typesOf f id))) where
+  turns-next : (s : Size) → turnsOf s (drop m (boxesOf f id)) ≡ turnsOf s (drop j (boxesOf f id))
+  turns-next s =
+      ap (λ (m : ℕ). turnsOf s (drop m (boxesOf f id))) (e ∙ ap (λ (ks : List ℕ). j + firstTransform ks) (drop-map j (boxesOf f id)))
+      ∙ ap (turnsOf s) (sym (drop-drop _ j (boxesOf f id)))
+      ∙ turns-first s (drop j (boxesOf f id))
+
+  pub next-some : (s : Size) (p q : Point) → LeadsBack (turnsOf s (drop m (boxesOf f id))) s p q → LeadsBack (turnsOf s (drop j (boxesOf f id))) s p q
+  next-some s p q h = subst (λ (ts : List Turn). LeadsBack ts s p q) (turns-next s) h
+
+  -- n is how many associations there are
+  module _ (n : ℕ) (en : n ≡ length (associationsOf f id)) where
+    pub next-transform : m < n → transform (getD (typesOf f id) m 0) ≡ true
+    next-transform h =
+        ap (λ (m : ℕ). transform (getD (typesOf f id) m 0)) e
+        ∙ ap transform (sym (getD-drop j (typesOf f id) _ 0))
+        ∙ first-found (drop j (typesOf f id)) (rw length-drop (omega (arith, types-many f id)))
+
+    pub next-none : n ≤ m → (s : Size) (p : Point) → LeadsBack (turnsOf s (drop j (boxesOf f id))) s p p
+    next-none h s p =
+        subst (λ (ts : List Turn). LeadsBack ts s p p) (turns-next s)
+        (undone-none (boxesOf f id) m (omega (arith, boxes-many f id)) s p)
 
 -- from the box with number j on, whose type is k
 module _ {t head : List ℕ} {pl : Places} {f : File} (v : TableOf t head pl f) (id j : ℕ) (l : j < length (associationsOf f id))
     (k : ℕ) (e : k ≡ getD (typesOf f id) j 0) (s : Size) (p r : Point) where
-  pub undone-skip : transform k ≡ false → LeadsBack (turnsOf s (drop (j + 1) (boxesOf f id))) s p r → LeadsBack (turnsOf s (drop j (boxesOf f id))) s p r
-  undone-skip q h =
-      subst (λ (ts : List Turn). LeadsBack ts s p r)
-      (sym (ap (turnsOf s) (boxes-left v id j l k e) ∙ turns-other s _ _ (ap transform (sym (kind-said v id j l k e)) ∙ q))) h
-
   -- b is the box, and c its content
   pub undone-read : (b c : List ℕ) → b ≡ getD (boxesOf f id) j [] → c ≡ bodyOf b → (u : Turn) → transform k ≡ true →
       (LongAsAsked k c → u ≡ turnBy s k c) → (z : Size) → z ≡ sizeAfter u s

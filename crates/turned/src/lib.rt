@@ -101,7 +101,7 @@ pub fn part_within(head: &[u8], table: &[u32], row: ItemRow, s: Size, part: Part
         x: part.right,
         y: part.bottom,
     };
-    let a = tracing::undone(head, table, row, 0, s, first);
-    let b = tracing::undone(head, table, row, 0, s, last);
+    let a = tracing::undone(head, table, row, s, first);
+    let b = tracing::undone(head, table, row, s, last);
     part_between(a, b)
 }

@@ -49,7 +49,7 @@ pub fn place_kind(number: u32) -> PlaceKind
     if is_among(number, &[12, 13, 14, 15, 16, 17, 18, 19, 20]) {
         return PlaceKind::Item;
     }
-    if is_among(number, &[21, 22, 23, 24, 25, 26]) {
+    if is_among(number, &[21, 22, 23, 24, 25, 26, 28]) {
         return PlaceKind::Asked;
     }
     PlaceKind::Nothing

@@ -79,7 +79,7 @@ pub fn print_item_words(fd: i32, number: u32) {
     }
 }
 
-// 21 to 26: of the item that was asked for.
+// 21 to 26 and 28: of the item that was asked for.
 pub fn print_asked_words(fd: i32, number: u32) {
     match number {
         21 => say(fd, b"is not listed"),
@@ -91,6 +91,7 @@ pub fn print_asked_words(fd: i32, number: u32) {
         ),
         25 => say(fd, b"has no property with that number"),
         26 => say(fd, b"has a crop, and an orientation cannot say one"),
+        28 => say(fd, b"has more than 512 points asked of it at once"),
         _ => {}
     }
 }

@@ -32,13 +32,28 @@ unfolding laterWordOf pick
 returns-4 c =
     let a = c .before .before .before in
     let b = a .before .before .before in
+    let d = b .before .before .before in
     simp (
-      sym (b .before .is-word .ensures) ∙ b .if1 .left,
-      sym (a .before .is-word2 .ensures) ∙ a .if2 .left,
-      sym (c .before .is-word3 .ensures) ∙ c .if3 .left,
+      sym (d .before .is-word .ensures) ∙ d .if1 .left,
+      sym (b .before .is-word2 .ensures) ∙ b .if2 .left,
+      sym (a .before .is-word3 .ensures) ∙ a .if3 .left,
+      sym (c .before .is-word4 .ensures) ∙ c .if4 .taken,
+    )
+
+returns-5 : tie.Need-returns-5
+unfolding laterWordOf pick
+returns-5 c =
+    let a = c .before .before .before in
+    let b = a .before .before .before in
+    let d = b .before .before .before in
+    simp (
+      sym (d .before .is-word .ensures) ∙ d .if1 .left,
+      sym (b .before .is-word2 .ensures) ∙ b .if2 .left,
+      sym (a .before .is-word3 .ensures) ∙ a .if3 .left,
+      sym (c .before .is-word4 .ensures) ∙ c .if4 .left,
     )
 
 pub later-word-of-spec : {M : Type 1} → statement M
 later-word-of-spec =
     tie.close (tie.spec (search needs) (λ c κs. search needs) returns (search needs) (λ c κs. search needs) returns-2
-    (search needs) (λ c κs. search needs) returns-3 returns-4)
+    (search needs) (λ c κs. search needs) returns-3 (search needs) (λ c κs. search needs) returns-4 returns-5)

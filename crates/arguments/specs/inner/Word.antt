@@ -1,7 +1,8 @@
 -- The words of the questions.
 --   same s t       whether two words have the same bytes
 --   wordOf s       which question a word asks; Unknown where it is none of them;   laterWordOf    the words that came with document 02
---   numbersOf w    how many numbers follow: an item's ID, then x and y of a pixel, or the number of a property; an orientation
+--   numbersOf w    how many numbers follow: an item's ID, then x and y of a pixel, of two for a seam, or the number of a
+--                  property; an orientation
 --   mayBeAlone w   whether none may follow: without an item, `orientation` is asked of the primary one
 use Prim.Native.Nat.{ℕ}
 use mathlib.Core.List.{List, [], _∷_}
@@ -9,7 +10,7 @@ use mathlib.Core.Bool.{Bool, true, false, _&&_}
 use lib.Dec.{eqb}
 use Rattle.fields.specs.Choice.{pick}
 use Rattle.arguments.specs.declared.Word.{Word}
-use Rattle.arguments.specs.declared.Word.the-variants.{Verdict, Why, Size, Trace, Sources, Property, Crop, Orientation, Transforms, Unknown}
+use Rattle.arguments.specs.declared.Word.the-variants.{Verdict, Why, Size, Trace, Sources, Property, Crop, Orientation, Transforms, Points, Unknown}
 
 unfoldable pub same : List ℕ → List ℕ → Bool
 same [] [] = true
@@ -45,8 +46,15 @@ orientation = 111 ∷ 114 ∷ 105 ∷ 101 ∷ 110 ∷ 116 ∷ 97 ∷ 116 ∷ 105
 abbrev pub transforms : List ℕ
 transforms = 116 ∷ 114 ∷ 97 ∷ 110 ∷ 115 ∷ 102 ∷ 111 ∷ 114 ∷ 109 ∷ 115 ∷ []
 
+abbrev pub points : List ℕ
+points = 112 ∷ 111 ∷ 105 ∷ 110 ∷ 116 ∷ 115 ∷ []
+
 unfoldable pub laterWordOf : List ℕ → Word
-laterWordOf s = pick (same s crop) Crop (pick (same s orientation) Orientation (pick (same s transforms) Transforms Unknown))
+laterWordOf s =
+    pick (same s crop) Crop
+    (pick (same s orientation) Orientation
+    (pick (same s transforms) Transforms
+    (pick (same s points) Points Unknown)))
 
 unfoldable pub wordOf : List ℕ → Word
 wordOf s =
@@ -67,6 +75,7 @@ numbersOf Property = 2
 numbersOf Crop = 1
 numbersOf Orientation = 1
 numbersOf Transforms = 1
+numbersOf Points = 5
 numbersOf Unknown = 0
 
 abbrev pub mayBeAlone : Word → Bool
@@ -79,4 +88,5 @@ mayBeAlone Property = false
 mayBeAlone Crop = false
 mayBeAlone Orientation = true
 mayBeAlone Transforms = false
+mayBeAlone Points = false
 mayBeAlone Unknown = true

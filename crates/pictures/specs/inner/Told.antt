@@ -2,7 +2,6 @@
 --   LongAsAsked k b         the content b has the length that the transform type k asks for
 --   turnBy s k b      turnOf of a box of type k with content b
 --   toldStep          the number that a step of a crop's edge gives
---   toldSide o v side    where on a side of an input that begins at the signed offset o the coordinate v lies
 use Prim.Native.Nat.{ℕ, _%_}
 use mathlib.Core.Path.{_≡_}
 use mathlib.Core.List.{List}
@@ -13,12 +12,10 @@ use Rattle.fields.specs.Choice.{pick}
 use Rattle.fields.specs.Field.{beAt}
 use Rattle.boxes.specs.Answer.{Answer, ok, refuse}
 use Rattle.boxes.specs.Types.{irot, imir}
-use Rattle.pictures.specs.Signed.{Signed}
 use Rattle.pictures.specs.Clap.{Edge, edge, none, cropOf}
 use Rattle.pictures.specs.inner.Steps.{Step, gives, fails}
 use Rattle.pictures.specs.Decode.{rotation, mirror}
 use Rattle.pictures.specs.Recipe.{Grid, Overlay, fieldBytes}
-use Rattle.pictures.specs.Trace.{onSide, alongSide}
 use Rattle.pictures.specs.declared.Size.{Size}
 use Rattle.pictures.specs.declared.Turn.{Turn}
 use Rattle.pictures.specs.declared.EdgeFound.{EdgeFound}
@@ -29,8 +26,6 @@ use Rattle.pictures.specs.declared.GridRead.{GridRead}
 use Rattle.pictures.specs.declared.GridRead.the-variants as grid
 use Rattle.pictures.specs.declared.OverlayRead.{OverlayRead}
 use Rattle.pictures.specs.declared.OverlayRead.the-variants as overlay
-use Rattle.pictures.specs.declared.SideFound.{SideFound}
-use Rattle.pictures.specs.declared.SideFound.the-variants as side
 
 -- a content of 1 byte for `irot` and `imir`, of 32 for `clap`
 pub record LongAsAsked (k : ℕ) (b : List ℕ) : Type 0 where
@@ -56,6 +51,3 @@ toldGrid (refuse n p) = grid.Wrong
 unfoldable pub toldOverlay : List ℕ → Answer Overlay → OverlayRead
 toldOverlay b (ok o) = overlay.Is (o .wide) (o .high) (fieldBytes (beAt b 1 1))
 toldOverlay b (refuse n p) = overlay.Wrong
-
-unfoldable pub toldSide : Signed → ℕ → ℕ → SideFound
-toldSide o v n = pick (onSide o v n) (side.Along (alongSide o v)) side.Off

@@ -7,7 +7,7 @@ use lib.ListN.{length}
 use Rattle.boxes.specs.Answer.{Answer}
 use Rattle.questions.specs.Questions.{listAfter}
 use Rattle.sourced.specs.Told.{toldListed}
-use Rattle.opening.proofs.FileLaws.{opened-file, file-read}
+use Rattle.opening.proofs.FileLaws.{opened-file}
 use Rattle.still.proofs.QuestionLaws.{file-shown}
 use Rattle.still.proofs.SourcesLaws.{listed-off, listed-on}
 use borrow.Author.Needs.{needs}
@@ -34,9 +34,9 @@ returns-2 c =
     let accepted = c6 .enum-told .given .1 in
     let k = opened-file _ (sym (g .0 .0) ∙ accepted) in
     let few : a .total < 18446744073709551616 = omega (arith, c17 .fits .total) in
-    let shown = file-shown (a .total) (a .head .now) (a .table .now) few (k .0) (k .1) _ (g .0 .1) in
-    let read = file-read (a .total) (a .head .now) (a .table .now) few (k .0) (k .1) _ (g .0 .1) in
-    let r = c2 .sources-in .ensures _ _ (k .0) shown (g .1 (k .0) accepted read) in
+    let shown = file-shown (a .total) (a .head .now) (a .table .now) few (k .0) (k .1) _ (g .0 .1) _
+    2048 (c6 .before .before .rows2 .given) (omega arith) (g .1 (k .0) accepted) in
+    let r = c2 .sources-in .ensures _ _ (k .0) shown in
     let z = listed-on (a .total) (a .head .now) (a .table .now) (a .id .0) (length (a .list .now)) (a .list .now) (k .0)
     (k .1) in
     (r .0 ∙ ap toldListed z, (r .1 ∙ ap (λ (m : Answer (List ℕ)). listAfter m (a .list .now)) z, g .0 .1))

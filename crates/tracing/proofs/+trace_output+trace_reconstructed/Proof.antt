@@ -17,28 +17,28 @@ use Rattle.tracing.proofs.undone.Reads as undone-reads
 use Rattle.tracing.proofs.+trace_output+trace_reconstructed.{statement}
 use Rattle.tracing.proofs.+trace_output+trace_reconstructed.Tie.{close}
 
-abbrev μ-trace-output : Measures 2 trace-output-kinds.ps ℕ
-μ-trace-output κs a = 2 * a .1 .1 .0 + 1
+abbrev μ-trace-output : Measures 3 trace-output-kinds.ps ℕ
+μ-trace-output κs a = 2 * a .1 .1 .1 .0 + 1
 
-abbrev μ-trace-reconstructed : Measures 2 trace-reconstructed-kinds.ps ℕ
-μ-trace-reconstructed κs a = 2 * a .1 .1 .0
+abbrev μ-trace-reconstructed : Measures 3 trace-reconstructed-kinds.ps ℕ
+μ-trace-reconstructed κs a = 2 * a .1 .1 .1 .0
 
-abbrev trace-output-at : ℕ → In 2 trace-output-kinds.ps
+abbrev trace-output-at : ℕ → In 3 trace-output-kinds.ps
 trace-output-at t =
-    and 2 trace-output-kinds.ps (is 2 trace-output-kinds.ps μ-trace-output t) trace-output.Pre
+    and 3 trace-output-kinds.ps (is 3 trace-output-kinds.ps μ-trace-output t) trace-output.Pre
 
-abbrev trace-output-below : ℕ → In 2 trace-output-kinds.ps
+abbrev trace-output-below : ℕ → In 3 trace-output-kinds.ps
 trace-output-below t =
-    and 2 trace-output-kinds.ps (falls 2 trace-output-kinds.ps _<_ μ-trace-output t) trace-output.Pre
+    and 3 trace-output-kinds.ps (falls 3 trace-output-kinds.ps _<_ μ-trace-output t) trace-output.Pre
 
-abbrev trace-reconstructed-at : ℕ → In 2 trace-reconstructed-kinds.ps
+abbrev trace-reconstructed-at : ℕ → In 3 trace-reconstructed-kinds.ps
 trace-reconstructed-at t =
-    and 2 trace-reconstructed-kinds.ps (is 2 trace-reconstructed-kinds.ps μ-trace-reconstructed t)
+    and 3 trace-reconstructed-kinds.ps (is 3 trace-reconstructed-kinds.ps μ-trace-reconstructed t)
     trace-reconstructed.Pre
 
-abbrev trace-reconstructed-below : ℕ → In 2 trace-reconstructed-kinds.ps
+abbrev trace-reconstructed-below : ℕ → In 3 trace-reconstructed-kinds.ps
 trace-reconstructed-below t =
-    and 2 trace-reconstructed-kinds.ps (falls 2 trace-reconstructed-kinds.ps _<_ μ-trace-reconstructed t)
+    and 3 trace-reconstructed-kinds.ps (falls 3 trace-reconstructed-kinds.ps _<_ μ-trace-reconstructed t)
     trace-reconstructed.Pre
 
 abbrev output-claims : ℕ → trace-output-lts.Claims
@@ -62,7 +62,7 @@ trace-output-returns : (t : ℕ) → trace-output-lts.Need-returns (output-claim
 trace-output-returns t c =
     let c2 = c .before .before in let c5 = c2 .before .before .before in
     λ total f v h i l.
-    let a = c5 .args in
+    let a = c5 .before .args in
     end-output v (a .row .0) h i (a .d) (a .passed) (a .p) l _ (c2 .declared-in .ensures) _
     (c .before .undone .ensures _ f (v .view) h) _ (c .trace-reconstructed .ensures total f v h i)
 
@@ -70,7 +70,7 @@ trace-reconstructed-returns : (t : ℕ) → trace-reconstructed-lts.Need-returns
 trace-reconstructed-returns t c =
     let c2 = c .before .before in let c4 = c2 .before .before in let c7 = c4 .before .before .before in
     λ total f v h i l.
-    let a = c7 .args in
+    let a = c7 .before .args in
     end-last v (a .row .0) h i (a .d) (a .passed) (a .p) _ (c4 .source-of .ensures total f v h i l) _ _
     (c2 .s .given .1) (c .if1 .taken)
 
@@ -82,7 +82,7 @@ trace-reconstructed-returns-2 : (t : ℕ) → trace-reconstructed-lts.Need-retur
 trace-reconstructed-returns-2 t c =
     let c2 = c .before .before in let c5 = c2 .before .before .before in
     λ total f v h i l.
-    let a = c5 .args in
+    let a = c5 .before .args in
     end-here v (a .row .0) h i (a .d) (a .passed) (a .p) _ (c2 .source-of .ensures total f v h i l)
     (c .enum-told .given .1)
 
@@ -90,7 +90,7 @@ trace-reconstructed-returns-3 : (t : ℕ) → trace-reconstructed-lts.Need-retur
 trace-reconstructed-returns-3 t c =
     let c2 = c .before .before in let c5 = c2 .before .before .before in
     λ total f v h i l.
-    let a = c5 .args in
+    let a = c5 .before .args in
     end-blank v (a .row .0) h i (a .d) (a .passed) (a .p) _ (c2 .source-of .ensures total f v h i l)
     (c .enum-told2 .given .1)
 
@@ -98,7 +98,7 @@ trace-reconstructed-returns-4 : (t : ℕ) → trace-reconstructed-lts.Need-retur
 trace-reconstructed-returns-4 t c =
     let c3 = c .before .before .before in let c5 = c3 .before .before in let c8 = c5 .before .before .before in
     λ total f v h i l.
-    let a = c8 .args in
+    let a = c8 .before .args in
     end-input v (a .row .0) h i (a .d) (a .passed) (a .p) _ (c5 .source-of .ensures total f v h i l) _ _
     (c3 .s .given .1) (c .before .if1 .left) l _ (c .trace-output .ensures total f v)
 

@@ -9,7 +9,7 @@ returns : tie.Need-returns
 returns c =
     let c2 = c .before .before in let c3 = c2 .before in let c6 = c3 .before .before .before in
     λ total f d h q i.
-    let r = c6 .args .row .0 in
+    let r = c6 .before .args .row .0 in
     absurd (grid-there d r h q _ (c3 .body-of .ensures total _ f (d .view) h (d .placed r h)) _ (c2 .read-grid .ensures)
     (c .enum-told .given .1))
 
@@ -18,7 +18,7 @@ returns-2 c =
     let c2 = c .before .before in let c4 = c2 .before .before in let c5 = c4 .before in
     let c8 = c5 .before .before .before in
     λ total f d h q i.
-    let a = c8 .args in
+    let a = c8 .before .args in
     let r = a .row .0 in
     let e = grid-tiles d r h q _ (c5 .body-of .ensures total _ f (d .view) h (d .placed r h)) _ (c4 .read-grid .ensures)
     _ _ _ _ (c2 .g .given .1) in

@@ -13,20 +13,20 @@ returns c =
     let c4 = c .before .before .before .before in
     λ total f v h e. absurd (omega (
       arith,
-      inputs-few (v .view) (c4 .args .row .0) h,
-      c .before .input-count .ensures (c4 .args .head .now) _ f (v .view) h,
+      inputs-few (v .view) (c4 .before .args .row .0) h,
+      c .before .input-count .ensures (c4 .before .args .head .now) _ f (v .view) h,
     ))
 
 topmost-requires : tie.Need-topmost-requires
 topmost-requires c κs =
-    let x = overlay-read _ _ _ _ _ (sym (c .before .o .given .1) ∙ c .before .before .before .read-overlay .ensures) in
-    (x .0, omega arith, x .1, x .2)
+    overlay-read _ _ _ _ _ (omega arith) (sym (c .before .o .given .1) ∙
+    c .before .before .before .read-overlay .ensures)
 
 returns-2 : tie.Need-returns-2
 returns-2 c =
     let c2 = c .before .before in let c3 = c2 .before in let c5 = c3 .before .before in
     let c8 = c5 .before .before .before in
-    λ total f v h e. layers-never v (c8 .args .row .0) h e _
+    λ total f v h e. layers-never v (c8 .before .args .row .0) h e _
     (c3 .body-of .ensures total _ f (v .view) h (v .placed _ h)) _ (c5 .input-count .ensures _ _ f (v .view) h)
     (sym (c .enum-told .given .1) ∙ c2 .read-overlay .ensures)
 
@@ -34,7 +34,7 @@ returns-3 : tie.Need-returns-3
 returns-3 c =
     let c5 = c .before .before .before .before .before in let c7 = c5 .before .before in
     let c10 = c7 .before .before .before in
-    λ total f v h e. layers-source v (c10 .args .row .0) h e _
+    λ total f v h e. layers-source v (c10 .before .args .row .0) h e _
     (c5 .body-of .ensures total _ f (v .view) h (v .placed _ h)) _ (c7 .input-count .ensures _ _ f (v .view) h) _ _
     (c .topmost .ensures total _ f v h (ap image e))
 

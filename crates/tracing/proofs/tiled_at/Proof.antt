@@ -9,28 +9,28 @@ use Rattle.tracing.proofs.tiled_at.Tie as tie
 returns : tie.Need-returns
 returns c =
     λ total head f d h g q e i.
-    let a = c .before .before .before .before .args in
-    let k = c .before .before .input-row in
-    absurd (tile-wide d (a .row .0) h g q (a .p) i (k .result .0) (k .ensures head _ f (d .view) h) _
+    let a = c .before .before .before .before .before .args in
+    let k = c .before .before .input-of in
+    absurd (tile-wide d (a .row .0) h g q (a .p) i (k .result .0) (k .ensures head _ f (d .view) (d .resolved) h) _
     (c .before .output-in .ensures) (c .if1 .taken))
 
 returns-2 : tie.Need-returns-2
 returns-2 c =
     λ total head f d h g q e i.
-    let a = c .before .before .before .before .before .args in
-    let k = c .before .before .before .input-row in
-    absurd (tile-high d (a .row .0) h g q (a .p) i (k .result .0) (k .ensures head _ f (d .view) h) _
+    let a = c .before .before .before .before .before .before .args in
+    let k = c .before .before .before .input-of in
+    absurd (tile-high d (a .row .0) h g q (a .p) i (k .result .0) (k .ensures head _ f (d .view) (d .resolved) h) _
     (c .before .before .output-in .ensures) (c .if2 .taken))
 
 cast-j : tie.Need-cast-j
 cast-j c =
-    let p = c .before .before .before .before .before .args .p in
+    let p = c .before .before .before .before .before .before .args .p in
     let z = c .before .before .output-in .result in
     omega (arith, div-le-self (p .y) (z .high))
 
 mul-j : tie.Need-mul-j
 mul-j c =
-    let a = c .before .before .before .before .before .args in
+    let a = c .before .before .before .before .before .before .args in
     let z = c .before .before .output-in .result in
     omega (
       arith,
@@ -40,13 +40,13 @@ mul-j c =
 
 cast-j-2 : tie.Need-cast-j-2
 cast-j-2 c =
-    let p = c .before .before .before .before .before .args .p in
+    let p = c .before .before .before .before .before .before .args .p in
     let z = c .before .before .output-in .result in
     omega (arith, div-le-self (p .x) (z .wide))
 
 add-j : tie.Need-add-j
 add-j c =
-    let a = c .before .before .before .before .before .args in
+    let a = c .before .before .before .before .before .before .args in
     let z = c .before .before .output-in .result in
     omega (
       arith,
@@ -57,11 +57,11 @@ add-j c =
 returns-3 : tie.Need-returns-3
 returns-3 c =
     λ total head f d h g q e i.
-    let a = c .before .before .before .before .before .before .args in
-    let k = c .before .before .before .before .input-row in
-    tiled-source d (a .row .0) h g q (a .p) i (k .result .0) (k .ensures head _ f (d .view) h) _
-    (c .before .before .before .output-in .ensures) (a .columns) e (c .input-row2 .result)
-    (c .input-row2 .ensures head _ f (d .view) h)
+    let a = c .before .before .before .before .before .before .before .args in
+    let k = c .before .before .before .before .input-of in
+    tiled-source d (a .row .0) h g q (a .p) i (k .result .0) (k .ensures head _ f (d .view) (d .resolved) h) _
+    (c .before .before .before .output-in .ensures) (a .columns) e (c .input-of2 .result)
+    (c .input-of2 .ensures head _ f (d .view) (d .resolved) h)
 
 pub tiled-at-spec : {M : Type 1} → statement M
 tiled-at-spec =

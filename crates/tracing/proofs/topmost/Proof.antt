@@ -1,116 +1,66 @@
--- `tracing::topmost` meets its contract. The loop's invariant: what lies on top of all inputs lies on top of those below k. The measure is k. Assumes nothing.
-use Prim.Native.Nat.{ℕ, _-_, _≤_, _<_}
+-- `tracing::topmost` meets its contract: the rows of an overlay's inputs stand side by side. Assumes nothing.
 use native.Mathlib.Omega.{arith}
-use mathlib.Core.Path.{_≡_}
-use mathlib.Core.List.{List}
-use mathlib.Core.Bool.{true}
-use lib.ListN.{length, take}
+use mathlib.Core.Path.{refl, subst}
 use borrow.Author.Needs.{needs}
-use Rattle.boxes.specs.Answer.{ok}
-use Rattle.boxes.specs.Types.{image}
-use Rattle.forms.specs.Form.{whole}
-use Rattle.contents.specs.File.{File}
-use Rattle.pictures.specs.Recipe.{Overlay, iovl-form}
-use Rattle.pictures.specs.Scene.{pictureAt}
-use Rattle.pictures.specs.Trace.{layerAt, blank}
-use Rattle.rules.specs.Joined.{targetsOf, itemAt}
-use Rattle.rules.specs.Derivations.{sceneOf}
-use Rattle.views.specs.inner.View.{idOf}
-use Rattle.pictures.proofs.GridLaws.{four-at-most}
-use Rattle.tracing.specs.inner.Told.{Shown}
-use Rattle.tracing.proofs.LayerLaws.{layer-none, offset-in, overlay-all, overlay-on, overlay-off}
+use Rattle.fields.proofs.FieldLaws.{four}
+use Rattle.tracing.proofs.LayerLaws.{Body, rest-long, inputs-inside, layers-shown}
 use Rattle.tracing.proofs.topmost.Statement.{statement}
 use Rattle.tracing.proofs.topmost.Tie as tie
 
-abbrev Inv-loop : tie.InvT-loop
-Inv-loop table row b bytes n p hope₀ k₀ hope k =
-    (k ≤ n) × ((total : ℕ) (head : List ℕ) (f : File) → Shown table head total f → row .0 < length (f .items) →
-    image (itemAt f (row .0) .type) ≡ true → (o : Overlay) → whole (iovl-form n) 0 b ≡ ok o →
-    n ≡ length (targetsOf f (idOf f (row .0))) →
-    layerAt (sceneOf total head f) (o .offsets) (pictureAt (sceneOf total head f) (row .0) .inputs) p blank ≡
-    layerAt (sceneOf total head f) (take k (o .offsets))
-    (take k (pictureAt (sceneOf total head f) (row .0) .inputs)) p blank)
-
-abbrev μ-loop : tie.MeasureT-loop
-μ-loop table row b bytes n p hope₀ k₀ hope k = k
-
-returns : tie.Need-returns Inv-loop μ-loop
+returns : tie.Need-returns
 returns c = λ total head f v h i o e q. absurd (omega (arith, v .view .enough, c .if1 .taken))
 
-loop-holds : tie.Need-loop-holds Inv-loop μ-loop
-loop-holds c =
-    (omega arith, λ total head f v h i o e q. overlay-all v (c .before .before .before .args .row .0) i _ _ _ o e q)
+returns-2 : tie.Need-returns-2
+returns-2 c = λ total head f v h i o e q. absurd (omega (arith, v .many, c .if2 .taken))
 
-mul-at : tie.Need-mul-at Inv-loop μ-loop
-mul-at c =
-    let c6 = c .before .before .before .before .before .before in
-    omega (arith, four-at-most (c6 .args .bytes) (c6 .pre .0))
+returns-3 : tie.Need-returns-3
+returns-3 c =
+    let c7 = c .before .before .before .before .before .before .before in
+    λ total head f v h i o e q. absurd (omega (
+      arith,
+      inputs-inside v (c7 .args .row .0) h _ q _ (c .before .held-word .ensures),
+      c .if3 .taken,
+    ))
 
-add-at : tie.Need-add-at Inv-loop μ-loop
-add-at c =
-    let c6 = c .before .before .before .before .before .before in
-    omega (arith, four-at-most (c6 .args .bytes) (c6 .pre .0))
-
-mul-at-2 : tie.Need-mul-at-2 Inv-loop μ-loop
-mul-at-2 c =
-    let c6 = c .before .before .before .before .before .before in
-    omega (arith, four-at-most (c6 .args .bytes) (c6 .pre .0))
-
-mul-at-3 : tie.Need-mul-at-3 Inv-loop μ-loop
-mul-at-3 c =
-    let c2 = c .before .before in let c6 = c2 .before .before .before .before in
-    let a = c6 in
-    let x = offset-in _ (c2 .loop .k - 1) _ _ (a .pre .0) (omega (arith, c .before .loop-test .taken, c2 .loop .inv .0))
-    (a .pre .1) (a .pre .2) in
-    omega (arith, x .far)
-
-add-at-2 : tie.Need-add-at-2 Inv-loop μ-loop
-add-at-2 c =
-    let c2 = c .before .before in let c6 = c2 .before .before .before .before in
-    let a = c6 in
-    let x = offset-in _ (c2 .loop .k - 1) _ _ (a .pre .0) (omega (arith, c .before .loop-test .taken, c2 .loop .inv .0))
-    (a .pre .1) (a .pre .2) in
-    omega (arith, four-at-most (a .args .bytes) (a .pre .0), x .far)
-
-covered-at-requires : tie.Need-covered-at-requires Inv-loop μ-loop
-covered-at-requires c κs =
-    let c2 = c .before .before in let c3 = c2 .before in let c7 = c3 .before .before .before .before in
-    let a = c7 in
-    let x = offset-in _ (c3 .loop .k - 1) _ _ (a .pre .0) (omega (arith, c2 .loop-test .taken, c3 .loop .inv .0))
-    (a .pre .1) (a .pre .2) in
-    (a .pre .0, x .room)
-
-returns-2 : tie.Need-returns-2 Inv-loop μ-loop
-returns-2 c =
-    let c3 = c .before .before .before in let c4 = c3 .before in let c5 = c4 .before in let c6 = c5 .before in
-    λ total head f v h i o e q.
-    let g = c6 in
-    let l = g .before .loop in
-    overlay-on v (g .before .before .before .before .before .args .row .0) i _ _ _ o e q _
-    (g .before .before .before .before .before .pre .3) (l .k) (l .k - 1) (omega (arith, g .loop-test .taken))
-    (omega (arith, g .loop-test .taken, l .inv .0)) (c5 .input-row .result)
-    (c5 .input-row .ensures head _ f (v .view) h) _ (c4 .output-in .ensures) (l .inv .1 total head f v h i o e q) _
-    (c3 .covered-at .ensures) _ (c .before .c .given .1)
-
-loop-again : tie.Need-loop-again Inv-loop μ-loop
-loop-again c =
-    let c2 = c .before .before in let c3 = c2 .before in let c4 = c3 .before in let c5 = c4 .before in (
-      omega arith,
-      λ total head f v h i o e q. let g = c5 in let l = g .before .loop in
-          overlay-off v (g .before .before .before .before .before .args .row .0) i _ _ _ o e q _
-          (g .before .before .before .before .before .pre .3) (l .k) (l .k - 1) (omega (arith, g .loop-test .taken))
-          (omega (arith, g .loop-test .taken, l .inv .0)) (c4 .input-row .result)
-          (c4 .input-row .ensures head _ f (v .view) h) _ (c3 .output-in .ensures) (l .inv .1 total head f v h i o e q) _
-          (c2 .covered-at .ensures) (c .enum-told .given .1),
+topmost-by-requires : tie.Need-topmost-by-requires
+topmost-by-requires c κs =
+    let c2 = c .before .before in let c4 = c2 .before .before in let c9 = c4 .before .before .before .before .before in
+    let a = c9 .args in (
+      subst (Body _ _) (c .if4 .taken) (c9 .pre),
+      (
+        refl,
+        omega (arith, c4 .before .if1 .left),
+        rest-long (a .rows .now) (c2 .before .held-word .result) (a .n) (omega (arith, c2 .if3 .left))
+            (omega (arith, c4 .if2 .left)),
+      ),
     )
 
-returns-3 : tie.Need-returns-3 Inv-loop μ-loop
-returns-3 c =
-    λ total head f v h i o e q. layer-none _ _ _ _ (c .before .loop .k) (omega (arith, c .loop-test .left))
-    (c .before .loop .inv .1 total head f v h i o e q)
+returns-4 : tie.Need-returns-4
+returns-4 c =
+    let c4 = c .before .before .before .before in let c10 = c4 .before .before .before .before .before .before in
+    λ total head f v h i o e q. layers-shown v (c10 .args .row .0) h _ q _ (c4 .held-word .ensures) i (c10 .args .p) o _
+    (λ s w there. c .topmost-by .ensures s w there o e)
+
+topmost-by-requires-2 : tie.Need-topmost-by-requires-2
+topmost-by-requires-2 c κs =
+    let c2 = c .before .before in let c4 = c2 .before .before in let c9 = c4 .before .before .before .before .before in
+    let a = c9 .args in (
+      subst (Body _ _) (four _ (c9 .pre .0) (c .if4 .left)) (c9 .pre),
+      (
+        refl,
+        omega (arith, c4 .before .if1 .left),
+        rest-long (a .rows .now) (c2 .before .held-word .result) (a .n)
+            (omega (arith, c2 .if3 .left)) (omega (arith, c4 .if2 .left)),
+      ),
+    )
+
+returns-5 : tie.Need-returns-5
+returns-5 c =
+    let c4 = c .before .before .before .before in let c10 = c4 .before .before .before .before .before .before in
+    λ total head f v h i o e q. layers-shown v (c10 .args .row .0) h _ q _ (c4 .held-word .ensures) i (c10 .args .p) o _
+    (λ s w there. c .topmost-by2 .ensures s w there o e)
 
 pub topmost-spec : {M : Type 1} → statement M
 topmost-spec =
-    tie.close (tie.spec Inv-loop μ-loop returns loop-holds (search needs) (search needs) mul-at add-at mul-at-2 mul-at-3
-    add-at-2 (search needs) covered-at-requires (search needs) returns-2 (search needs) (search needs) loop-again
-    returns-3)
+    tie.close (tie.spec returns returns-2 (λ c κs. search needs) (search needs) (search needs) returns-3 (search needs)
+    (search needs) (search needs) (search needs) topmost-by-requires returns-4 topmost-by-requires-2 returns-5)

@@ -22,9 +22,9 @@ boxNumbers = 3 ∷ 6 ∷ 7 ∷ 8 ∷ 9 ∷ 10 ∷ 11 ∷ []
 abbrev pub itemNumbers : List ℕ
 itemNumbers = 12 ∷ 13 ∷ 14 ∷ 15 ∷ 16 ∷ 17 ∷ 18 ∷ 19 ∷ 20 ∷ []
 
--- the place is "asked ID"; of 26 "the asked item's ID where one is asked, else 0" (document 02)
+-- the place is "asked ID"; of 26 and 28 "the asked item's ID where one is asked, else 0" (document 02)
 abbrev pub askedNumbers : List ℕ
-askedNumbers = 21 ∷ 22 ∷ 23 ∷ 24 ∷ 25 ∷ 26 ∷ []
+askedNumbers = 21 ∷ 22 ∷ 23 ∷ 24 ∷ 25 ∷ 26 ∷ 28 ∷ []
 
 unfoldable pub kindOf : ℕ → PlaceKind
 kindOf n =

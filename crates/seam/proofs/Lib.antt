@@ -1,0 +1,2 @@
+pub mod PointsLaws
+pub mod NumbersLaws
