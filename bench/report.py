@@ -309,7 +309,8 @@ Made by `bench/run`; do not edit. Each number is the x86-64 instructions of one 
 processors, by bench/plugin.c in qemu; it is the same in every run. Cells hold the proved library, the second reading
 (tests/second/second.c by the kit's own clang at -O3 -march=x86-64) and the proved one as a multiple of the second. Both
 take `memset` and `memcpy` from the same C library, held to its plain x86-64 versions. Files are made by bench/files.py;
-`stress-*` are the conformance folder's, `costly-*` were searched out to be costly (../shared/costly).
+`stress-*` and `hevc-*` are the conformance folder's, `stress-*` with an `hvcC` where `hvc1` items had none; `costly-*` were
+searched out to be costly (../shared/costly).
 
 """
 

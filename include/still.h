@@ -15,8 +15,8 @@
  *
  * What every call leaves:
  *   out[0], out[1]    the refusal's number and place, and the rest of out 0; or 0 and 0, then the answer's values as told below, and the rest 0
- *   table             after refusal 1 as it was; after 2 to 20 its first STILL_TABLE_WORDS words are 0; otherwise, 21 to 26 and 28
- *                     too, they are the file's. Words behind them are never written.
+ *   table             after refusal 1 as it was; after 2 to 20 and 29 its first STILL_TABLE_WORDS words are 0; otherwise, 21 to 26 and
+ *                     28 too, they are the file's. Words behind them are never written.
  */
 #ifndef STILL_H
 #define STILL_H
@@ -45,8 +45,8 @@
 #define STILL_MAX_TARGETS 2048
 #define STILL_MAX_EXTENTS 512
 
-/* out[0]. The place, out[1], is 0 for 1, 2, 4, 5 and 27; for 3 and 6 to 11 where the box begins in the head; for 12 to 20 the item's ID; for
- * 21 to 26 and 28 the ID that was asked for. */
+/* out[0]. The place, out[1], is 0 for 1, 2, 4, 5 and 27; for 3 and 6 to 11 where the box begins in the head; for 12 to 20 and 29 the
+ * item's ID; for 21 to 26 and 28 the ID that was asked for. */
 enum still_refusal {
     STILL_ACCEPTED = 0,
     STILL_TABLE_TOO_SHORT = 1,       /* the table that was lent is too short */
@@ -76,7 +76,8 @@ enum still_refusal {
     STILL_NO_SUCH_PROPERTY = 25,     /* the item has no property with that number */
     STILL_HAS_A_CROP = 26,           /* the item has a crop, which no orientation says */
     STILL_NO_ORIENTATION = 27,       /* an orientation is one of 1 to 8; no file was read */
-    STILL_TOO_MANY_POINTS = 28       /* more than 512 points were asked for at once */
+    STILL_TOO_MANY_POINTS = 28,      /* more than 512 points were asked for at once */
+    STILL_NOT_CONFIGURED = 29        /* an `hvc1` picture does not have exactly one `hvcC`, marked essential */
 };
 
 /* out[2] of still_trace, and the fifth number of a point's record */

@@ -60,9 +60,10 @@ faults! {
     HasACrop = 26, "the item has a crop, which no orientation says";
     NoOrientation = 27, "an orientation is one of 1 to 8";
     TooManyPoints = 28, "more than 512 points were asked for at once";
+    NotConfigured = 29, "an `hvc1` picture does not have exactly one `hvcC`, marked essential";
 }
 
-/// A refusal and its place: 0 for 1, 2, 4, 5 and 27; where the box begins in the head for 3 and 6 to 11; the item's ID for 12 to 20; the ID that was asked for for 21 to 26 and 28.
+/// A refusal and its place: 0 for 1, 2, 4, 5 and 27; where the box begins in the head for 3 and 6 to 11; the item's ID for 12 to 20 and 29; the ID that was asked for for 21 to 26 and 28.
 #[derive(Clone, Copy, Debug, PartialEq, Eq)]
 pub struct Refusal {
     pub fault: Fault,

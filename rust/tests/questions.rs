@@ -82,6 +82,19 @@ fn a_crop_has_no_orientation() {
 }
 
 #[test]
+fn an_item_without_its_decoder_configuration() {
+    // In `ipma` each of the items 1 to 6 names its size and its `hvcC`, which is marked essential: none, one that is not marked, two.
+    let mut table = Table::new();
+    assert!(Still::of(CROPPED).verdict(&mut table).is_ok());
+    for (at, byte, place) in [(741, 0, 1), (746, 0x0b, 2), (745, 0x8b, 2)] {
+        let mut file = CROPPED.to_vec();
+        file[at] = byte;
+        assert_eq!(Still::of(&file).verdict(&mut table), refused(Fault::NotConfigured, place));
+        assert_eq!(table.words(), &[0; TABLE_WORDS]);
+    }
+}
+
+#[test]
 fn every_orientation_as_transforms() {
     use Transform::{Imir, Irot};
     let lists = [

@@ -856,9 +856,30 @@ static void spoil_properties(struct dice *d, struct plan *plan)
     }
 }
 
+/* An hvc1 item gets the properties of the jpeg item right before it in iinf, as tiles have those of their neighbours. */
+static int spoil_twin(struct dice *d, struct plan *plan)
+{
+    uint32_t first = below(d, plan->items);
+    for (uint32_t k = 0; k < plan->items; k++) {
+        uint32_t place = (first + k) % plan->items;
+        if (place == 0)
+            continue;
+        const struct picture *before = &plan->item[plan->order[place - 1]];
+        struct picture *item = &plan->item[plan->order[place]];
+        if (!needs_hvcc(item) || before->type != TYPE('j', 'p', 'e', 'g'))
+            continue;
+        item->first_association = before->first_association;
+        item->associations = before->associations;
+        return 1;
+    }
+    return 0;
+}
+
 /* One hvcC too few or too many, or one that is not essential. */
 static void spoil_hvcc(struct dice *d, struct plan *plan)
 {
+    if (chance(d, 25) && spoil_twin(d, plan))
+        return;
     for (int tries = 0; tries < 40; tries++) {
         struct picture *item = pick(d, plan, 1 << CODED);
         uint16_t *list = plan->association + item->first_association;

@@ -4,7 +4,7 @@
 #define LEVEL_H
 
 #ifndef LEVEL
-#define LEVEL 4
+#define LEVEL 5
 #endif
 
 #endif

@@ -1,4 +1,4 @@
-// Refusals 12 to 17 and 22: what the table says of the item, as far as it was read.
+// Refusals 12 to 17, 22 and 29: what the table says of the item, as far as it was read.
 ghost use mathlib.Core.Path.{_≡_};
 ghost use lib.ListN.{length};
 use boxes::Refusal;
@@ -7,6 +7,8 @@ use records::FoundRow;
 use table::ItemId;
 use table::ItemRow;
 use words::say;
+
+const HVCC: u32 = 0x68766343;
 
 const ISPE: u32 = 0x69737065;
 
@@ -68,6 +70,7 @@ fn print_reach(fd: i32, table: &[u32], row: ItemRow, total: u64) {
 enum Sought {
     // An essential property that this reader does not know.
     Unknown,
+    Hvcc,
     Ispe,
     // A turn or crop.
     Transform,
@@ -94,6 +97,7 @@ fn is_picture(table: &[u32], id: ItemId) -> bool {
 fn is_sought(table: &[u32], row: ItemRow, sought: Sought, j: usize) -> bool {
     match sought {
         Sought::Unknown => is_unknown(table, row, j),
+        Sought::Hvcc => declared::kind_of(table, row, j) == HVCC,
         Sought::Ispe => declared::kind_of(table, row, j) == ISPE,
         Sought::Transform => declared::is_transform(declared::kind_of(table, row, j)),
         Sought::Opaque => !is_picture(table, views::target_of(table, row, j)),
@@ -128,6 +132,22 @@ fn print_need(fd: i32, table: &[u32], row: ItemRow) {
     say(fd, b"needs a property of type ");
     words::print_kind(fd, kind);
     say(fd, b", which this reader does not know");
+}
+
+// 29: no configuration, several, or one that is not marked essential.
+fn print_configuration(fd: i32, table: &[u32], row: ItemRow) {
+    let n = declared::property_count(table, row);
+    let first = first_from(table, row, Sought::Hvcc, 0, n);
+    if n <= first {
+        return say(fd, b"has no decoder configuration (`hvcC`)");
+    }
+    if first_from(table, row, Sought::Hvcc, first + 1, n) < n {
+        return say(fd, b"has its decoder configuration (`hvcC`) more than once");
+    }
+    say(
+        fd,
+        b"has a decoder configuration (`hvcC`) that is not marked essential",
+    );
 }
 
 // 16: no size, several, or one behind a turn or crop.
@@ -176,6 +196,7 @@ fn print_of(fd: i32, table: &[u32], row: ItemRow, total: u64, number: u32) {
         16 => print_size(fd, table, row),
         17 => print_inputs(fd, table, row),
         22 => print_type(fd, table, row),
+        29 => print_configuration(fd, table, row),
         _ => words::print_words(fd, number),
     }
 }

@@ -1,4 +1,4 @@
--- Two items with the same associations are told the same sizes. Assumes nothing.
+-- Two items that are alike are told the same sizes and are configured alike. Assumes nothing.
 --   AlikeTo f a b j    the first j associations of the items a and b are the same
 use Prim.Native.Nat.{ℕ, _+_, _<_}
 use native.Mathlib.Nat.{eq-or-lt-of-le}
@@ -12,11 +12,12 @@ use lib.Seq.{ext-getD}
 use Rattle.fields.specs.Choice.{pick}
 use Rattle.contents.specs.Ipma.{Association}
 use Rattle.contents.specs.File.{File}
-use Rattle.rules.specs.Joined.{associationsOf, noAssociation}
+use Rattle.rules.specs.Joined.{associationsOf, itemAt, noAssociation}
 use Rattle.rules.specs.Places.{Places}
+use Rattle.rules.specs.Rules.{configured}
 use Rattle.rules.specs.Words.{associationWord}
 use Rattle.views.specs.inner.View.{TableOf}
-use Rattle.declared.specs.inner.Told.{toldSizes}
+use Rattle.declared.specs.inner.Told.{Alike, toldSizes}
 
 abbrev pub AlikeTo : File → ℕ → ℕ → ℕ → Type 0
 AlikeTo f a b j = (i : ℕ) → i < j → getD (associationsOf f a) i noAssociation ≡ getD (associationsOf f b) i noAssociation
@@ -53,7 +54,11 @@ pub alike-all : (f : File) (a b j : ℕ) → j ≡ length (associationsOf f a) �
     AlikeTo f a b j → associationsOf f a ≡ associationsOf f b
 alike-all f a b j h l s = ext-getD noAssociation (associationsOf f a) (associationsOf f b) (sym h ∙ l) (λ i q. s i (omega arith))
 
--- toldSizes
-pub alike-told : (f : File) (a b : ℕ) → associationsOf f a ≡ associationsOf f b → toldSizes f a ≡ toldSizes f b
-unfolding toldSizes
-alike-told f a b e = rw e
+-- toldSizes, configured: the items in the rows a and b
+module _ (f : File) (a b : ℕ) (e : Alike f a b) where
+  pub alike-told : toldSizes f (itemAt f a .id) ≡ toldSizes f (itemAt f b .id)
+  unfolding toldSizes
+  alike-told = rw (e .1)
+
+  pub alike-configured : configured f (itemAt f a) ≡ configured f (itemAt f b)
+  alike-configured = rw (e .0, e .1)

@@ -1,5 +1,6 @@
 pub mod NamedLaws
 pub mod EssentialLaws
+pub mod ConfiguredLaws
 pub mod IspeLaws
 pub mod SizeLaws
 pub mod ToldLaws

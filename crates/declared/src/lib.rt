@@ -1,4 +1,4 @@
-// Refusals 15 and 16, and what an item's properties say of its size: the properties of an item, one after the other.
+// Refusals 15, 29 and 16, and what an item's properties say of its size: the properties of an item, one after the other.
 ghost use mathlib.Core.Path.{_≡_};
 ghost use mathlib.Core.List.{List, []};
 ghost use mathlib.Core.Bool.{true};
@@ -11,12 +11,14 @@ ghost use Rattle.contents.specs.File.{File};
 ghost use Rattle.pictures.specs.Turn.{size};
 ghost use Rattle.pictures.specs.Decode.{transform};
 ghost use Rattle.rules.specs.Places.{Places};
-ghost use Rattle.rules.specs.Joined.{associationsOf, boxesOf, typesOf};
-ghost use Rattle.rules.specs.Rules.{essentialKnown};
+ghost use Rattle.rules.specs.Joined.{associationsOf, boxesOf, typesOf, itemAt};
+ghost use Rattle.rules.specs.Rules.{essentialKnown, configured};
 ghost use Rattle.views.specs.inner.View.{TableOf, idOf};
-ghost use Rattle.declared.specs.inner.Told.{toldSizes};
+ghost use Rattle.declared.specs.inner.Told.{Alike, toldSizes};
 use pictures::Size;
 use table::ItemRow;
+
+const HVC1: u32 = 0x68766331;
 
 const ISPE: u32 = 0x69737065;
 
@@ -123,20 +125,53 @@ fn essentials_known(table: &[u32], row: ItemRow) -> bool
     true
 }
 
-// 15 before 16 for the properties of a picture that break one of the two.
-pub fn properties_fault(table: &[u32], row: ItemRow) -> u32
+// Whether an item that is an `hvc1` has exactly one `hvcC`, marked essential. Others need none.
+pub fn is_configured(table: &[u32], row: ItemRow) -> bool
     ensures { λ r. ⌜ ((head : List ℕ) (pl : Places) (f : File) → TableOf (now (table .entry)) head pl f →
-        row .0 < length (f .items) → r ≡ pick (essentialKnown f (associationsOf f (idOf f (row .0)))) 16 15) ⌝ }
+        row .0 < length (f .items) → r ≡ configured f (itemAt f (row .0))) ⌝ }
 {
-    if essentials_known(table, row) { 16 } else { 15 }
+    if views::type_of(table, row) != HVC1 {
+        return true;
+    }
+    let n = property_count(table, row);
+    let mut seen = false;
+    let mut j: usize = 0;
+    while j < n {
+        if kind_of(table, row, j) == HVCC {
+            if seen {
+                return false;
+            }
+            if views::association_of(table, row, j) < ESSENTIAL {
+                return false;
+            }
+            seen = true;
+        }
+        j += 1;
+    }
+    seen
 }
 
-// Whether two items have the same associations in the same order. A hint: a no promises nothing, and costs only time.
+// Which of 15, 29 and 16 comes first for the properties of a picture that break one of them.
+pub fn properties_fault(table: &[u32], row: ItemRow) -> u32
+    ensures { λ r. ⌜ ((head : List ℕ) (pl : Places) (f : File) → TableOf (now (table .entry)) head pl f →
+        row .0 < length (f .items) →
+        r ≡ pick (essentialKnown f (associationsOf f (idOf f (row .0)))) (pick (configured f (itemAt f (row .0))) 16 29) 15) ⌝ }
+{
+    if !essentials_known(table, row) {
+        return 15;
+    }
+    if is_configured(table, row) { 16 } else { 29 }
+}
+
+// Whether two items have the same type, and the same associations in the same order.
 pub fn is_alike(table: &[u32], row: ItemRow, other: ItemRow) -> bool
     ensures { λ r. ⌜ ((head : List ℕ) (pl : Places) (f : File) → TableOf (now (table .entry)) head pl f →
-        row .0 < length (f .items) → other .0 < length (f .items) → r ≡ true →
-        associationsOf f (idOf f (row .0)) ≡ associationsOf f (idOf f (other .0))) ⌝ }
+        row .0 < length (f .items) → other .0 < length (f .items) →
+        (r ≡ true → Alike f (row .0) (other .0)) × (Alike f (row .0) (other .0) → r ≡ true)) ⌝ }
 {
+    if views::type_of(table, row) != views::type_of(table, other) {
+        return false;
+    }
     let n = property_count(table, row);
     if n != property_count(table, other) {
         return false;
@@ -164,7 +199,7 @@ fn ispe_size(b: &[u8]) -> Size
     }
 }
 
-// The size that an item declares and the one that its transforms make of it, or that its properties break 15 or 16.
+// The size that an item declares and the one that its transforms make of it, or that its properties break one of 15, 29 and 16.
 pub enum SizesRead {
     Are { declared: Size, output: Size },
     Wrong,

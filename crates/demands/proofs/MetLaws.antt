@@ -40,7 +40,7 @@ use Rattle.pictures.proofs.PathLaws.{good-picture}
 use Rattle.rules.specs.Joined.{associationsOf, targetsOf, propertyAt, boxesOf, typesOf, rowOf, noAssociation, noItem, itemAt}
 use Rattle.rules.specs.Places.{placesIn}
 use Rattle.rules.specs.Derivations.{declaredIn, sceneOf}
-use Rattle.rules.specs.Rules.{countOf, rule15-16, judged}
+use Rattle.rules.specs.Rules.{countOf, rule15-29-16, judged}
 use Rattle.rules.proofs.RuleLaws.{Judged, judged-each}
 use Rattle.rules.proofs.SceneLaws.{judged-good, opaque-at, declared-at, turns-at, inputs-at, inputs-fed}
 use Rattle.views.specs.inner.View.{Sound}
@@ -308,9 +308,9 @@ module _ (total : ℕ) (head : List ℕ) (f : File) (good : GoodFile total head 
 
   count-one : (r : ℕ) → r < length (f .items) → image (itemAt f r .type) ≡ true →
       countOf ispe (typesOf f (itemAt f r .id)) ≡ 1
-  unfolding rule15-16
+  unfolding rule15-29-16
   count-one r l e =
-      let x = then-ok _ _ tt (sym (pick-yes _ _ e) ∙ each .by-15-16 r l) in
+      let x = then-ok _ _ tt (sym (pick-yes _ _ e) ∙ each .by-15-29-16 r l) in
       eqb-true _ 1 (and-both (eqb (countOf ispe (typesOf f (itemAt f r .id))) 1) _ (check-ok 16 _ _ tt (x .2)) .0)
 
   -- Met: every picture that is listed

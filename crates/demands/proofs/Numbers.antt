@@ -16,7 +16,7 @@ use Rattle.pictures.specs.declared.Point.{Point}
 use Rattle.rules.specs.Rules.{judged}
 use Rattle.rules.specs.Opening as Opening
 use Rattle.questions.specs.Questions as Q
-use Rattle.faults.specs.Fault.{Rule, Number, n12, n13, n14, n15, n16, n17, n18, n19, n20, ruleOf}
+use Rattle.faults.specs.Fault.{Rule, Number, n12, n13, n14, n15, n29, n16, n17, n18, n19, n20, ruleOf}
 use Rattle.faults.proofs.JudgedLaws.{judged-first}
 use Rattle.seam.specs.Points.{pointsIn, points}
 use Rattle.facing.specs.Orientation.{Transform, orientationIn, orientation, transformsIn}
@@ -89,6 +89,7 @@ module _ (total : ℕ) (head : List ℕ) where
   fault-number f n13 = refl
   fault-number f n14 = refl
   fault-number f n15 = refl
+  fault-number f n29 = refl
   fault-number f n16 = refl
   fault-number f n17 = refl
   fault-number f n18 = refl

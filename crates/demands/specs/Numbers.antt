@@ -18,8 +18,9 @@ readingNumbers = 2 ∷ 3 ∷ 4 ∷ 5 ∷ 6 ∷ 7 ∷ 8 ∷ 9 ∷ 10 ∷ 11 ∷ [
 
 -- "Then 12. Then for each item in table order 13 before 14; then for each image item 15 before 16; then 17 for each
 -- item; 18 and then 19, first such item in table order; then 20, by rising depth and table order within a depth."
+-- Document 02: "29, checked for each image item between 15 and 16"
 abbrev pub judgingNumbers : List ℕ
-judgingNumbers = 12 ∷ 13 ∷ 14 ∷ 15 ∷ 16 ∷ 17 ∷ 18 ∷ 19 ∷ 20 ∷ []
+judgingNumbers = 12 ∷ 13 ∷ 14 ∷ 15 ∷ 29 ∷ 16 ∷ 17 ∷ 18 ∷ 19 ∷ 20 ∷ []
 
 -- 1: "table under 11,280 words"; then reading, then judging
 abbrev pub fileNumbers : List ℕ

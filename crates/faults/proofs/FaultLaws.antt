@@ -1,4 +1,4 @@
--- Each test of rules 12 to 20 tells its fault. Assumes nothing.
+-- Each test of rules 12 to 20 and 29 tells its fault. Assumes nothing.
 use Prim.Native.Nat.{ℕ, suc, _+_, _*_, _≤_, _<_}
 use native.Mathlib.Omega.{arith}
 use native.Mathlib.Nat.{zero-add}
@@ -13,7 +13,7 @@ use Rattle.fields.specs.Choice.{pick}
 use Rattle.fields.specs.Lists.{member}
 use Rattle.fields.proofs.FieldLaws.{both}
 use Rattle.fields.proofs.TestLaws.{untrue, and-both, both-and, or-either, member-there}
-use Rattle.boxes.specs.Types.{ispe, knownProperty, coded, image}
+use Rattle.boxes.specs.Types.{ispe, hvc1, knownProperty, coded, image}
 use Rattle.boxes.specs.Box.{kindOf}
 use Rattle.contents.specs.Iinf.{Item}
 use Rattle.contents.specs.Iloc.{Extent, Location}
@@ -23,7 +23,7 @@ use Rattle.pictures.specs.Decode.{transform}
 use Rattle.rules.specs.Joined.{associationsOf, propertyAt, rowOf, noItem, itemAt}
 use Rattle.rules.specs.Bytes.{Store, allExtents, goodMethod, goodLengths, within}
 use Rattle.rules.specs.Derivations.{nothingIn}
-use Rattle.rules.specs.Rules.{goodPrimary, essentialKnown, countOf, ispeBefore, goodIspe}
+use Rattle.rules.specs.Rules.{goodPrimary, essentialKnown, configurations, oneMarked, configured, countOf, ispeBefore, goodIspe}
 use Rattle.faults.specs.Fault.{
   Any,
   Not,
@@ -41,11 +41,25 @@ use Rattle.faults.specs.Fault.{
   NotReadable,
   protected,
   unknown,
+  WrongConfiguration,
+  unmarked,
   WrongIspe,
   not-one,
   late,
 }
-use Rattle.faults.proofs.TellsLaws.{Tells, tells-as, tells-and, tells-itself, tells-not, tells-if, tells-equal, tells-other, tells-most, tells-each}
+use Rattle.faults.proofs.TellsLaws.{
+  Tells,
+  tells-as,
+  tells-and,
+  tells-itself,
+  tells-not,
+  tells-where,
+  tells-if,
+  tells-equal,
+  tells-other,
+  tells-most,
+  tells-each,
+}
 
 -- 12, goodPrimary
 pub tells-primary : (f : File) → Tells (goodPrimary f) (PrimaryWrong f)
@@ -124,6 +138,24 @@ tells-readable f i =
     from : NotReadable f i → Not (i .protection ≡ 0) ⊎ Any Unknown (associationsOf f (i .id))
     from (protected p) = inl p
     from (unknown a) = inr a
+
+-- 29, configured
+pub tells-marked : (marks : List Bool) → Tells (oneMarked marks) (WrongConfiguration marks)
+unfolding oneMarked
+tells-marked [] = record { there = λ e. not-one (λ l. omega arith); absent = λ e w. untrue e }
+tells-marked (m ∷ []) = tells-as (λ e. unmarked (inl e)) from (tells-itself m)
+  where
+    from : WrongConfiguration (m ∷ []) → m ≡ false
+    from (not-one n) = absurd (n refl)
+    from (unmarked (inl e)) = e
+    from (unmarked (inr x)) = absurd x
+tells-marked (m ∷ (n ∷ ms)) = record { there = λ e. not-one (λ l. omega arith); absent = λ e w. untrue e }
+
+pub tells-configured : (f : File) (i : Item) →
+    Tells (configured f i) ((i .type ≡ hvc1) × WrongConfiguration (configurations f (associationsOf f (i .id))))
+tells-configured f i =
+    tells-as (λ w. (eqb-true _ _ (w .0), w .1)) (λ w. (eq-eqb _ _ (w .0), w .1))
+    (tells-where (eqb (i .type) hvc1) _ (tells-marked (configurations f (associationsOf f (i .id)))))
 
 -- 16, countOf: none is counted where it is no member
 pub tells-counted : (k : ℕ) (ks : List ℕ) → Tells (eqb (countOf k ks) 0) (member k ks ≡ true)

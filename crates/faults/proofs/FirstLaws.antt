@@ -53,12 +53,12 @@ module _ (total : ℕ) (head : List ℕ) (f : File) where
     order-row h k (inr (e, inr (d, inl l))) = omega arith
     order-row h k (inr (e, inr (d, inr x))) = omega (arith, x .0)
 
-    pub order-number : q ≤ r → Earlier (T n r) (T m q) → rule m .stage ≤ rule n .stage → rule m .lap q ≤ rule n .lap r → rule n .number < rule m .number
-    order-number g (inl l) h k = absurd (omega arith)
-    order-number g (inr (e, inl l)) h k = absurd (omega arith)
-    order-number g (inr (e, inr (d, inl l))) h k = absurd (omega arith)
-    order-number g (inr (e, inr (d, inr (c, inl l)))) h k = l
-    order-number g (inr (e, inr (d, inr (c, inr x)))) h k = absurd (x .1)
+    pub order-rank : q ≤ r → Earlier (T n r) (T m q) → rule m .stage ≤ rule n .stage → rule m .lap q ≤ rule n .lap r → rule n .rank < rule m .rank
+    order-rank g (inl l) h k = absurd (omega arith)
+    order-rank g (inr (e, inl l)) h k = absurd (omega arith)
+    order-rank g (inr (e, inr (d, inl l))) h k = absurd (omega arith)
+    order-rank g (inr (e, inr (d, inr (c, inl l)))) h k = l
+    order-rank g (inr (e, inr (d, inr (c, inr x)))) h k = absurd (x .1)
 
   pub record Finds (In : Number → ℕ → Type 0) (k p : ℕ) : Type 0 where
     pub number : Number
@@ -109,14 +109,14 @@ module _ (total : ℕ) (head : List ℕ) (f : File) where
   pub examines-check : (n : Number) (r : ℕ) (t : Bool) → Tells t (F n r) → Examines (check (rule n .number) (rule n .place r) t) (Just n r)
   examines-check n r t k = examines-one n r _ (λ e. k .absent (check-ok _ _ t tt e)) (λ i j e. let x = refused _ _ t i j e in ((x .0, x .1), k .there (x .2)))
 
-  -- two faults of a row, asked by rising number
+  -- two faults of a row, asked by rising rank
   pub just-apart : (n m : Number) (r : ℕ) → rule n .stage ≤ rule m .stage → rule n .lap r ≤ rule m .lap r →
-      rule n .number < rule m .number → (a : Number) (b : ℕ) (c : Number) (d : ℕ) → Just n r a b → Just m r c d →
+      rule n .rank < rule m .rank → (a : Number) (b : ℕ) (c : Number) (d : ℕ) → Just n r a b → Just m r c d →
       Earlier (T c d) (T a b) → ⊥
   just-apart n m r hs hl hn a b c d i j y =
       let x : Earlier (T m r) (T n r) = subst (λ (l : List ℕ). Earlier l (T n r)) (just-turn m r c d j)
       (subst (λ (l : List ℕ). Earlier (T c d) l) (just-turn n r a b i) y) in
-      let z = order-number m r n r (omega arith) x hs hl in
+      let z = order-rank m r n r (omega arith) x hs hl in
       omega arith
 
   -- nothing to find

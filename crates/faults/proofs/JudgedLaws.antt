@@ -24,12 +24,12 @@ use Rattle.pictures.proofs.DecodeLaws.{turns-fit}
 use Rattle.pictures.proofs.DepthLaws.{itself-derives, derives-itself}
 use Rattle.rules.specs.Joined.{locationOf, boxesOf, typesOf, noItem, itemAt}
 use Rattle.rules.specs.Derivations.{sceneOf}
-use Rattle.rules.specs.Rules.{inOrder, byDepth, rule12, rule13-14, rule15-16, rule17, rule18, rule19, rule20, judged}
+use Rattle.rules.specs.Rules.{inOrder, byDepth, rule12, rule13-14, rule15-29-16, rule17, rule18, rule19, rule20, judged}
 use Rattle.rules.proofs.SceneLaws.{turns-at}
-use Rattle.faults.specs.Fault.{Rule, Number, n12, n13, n14, n15, n16, n17, n18, n19, n20, storeFor, ruleOf, Fault}
+use Rattle.faults.specs.Fault.{Rule, Number, n12, n13, n14, n15, n29, n16, n17, n18, n19, n20, storeFor, ruleOf, Fault}
 use Rattle.faults.specs.Order.{Earlier, orderOf, First}
 use Rattle.faults.proofs.TellsLaws.{Tells, tells-as, tells-not, tells-most}
-use Rattle.faults.proofs.FaultLaws.{tells-primary, tells-place, tells-bytes, tells-readable, tells-ispe}
+use Rattle.faults.proofs.FaultLaws.{tells-primary, tells-place, tells-bytes, tells-readable, tells-configured, tells-ispe}
 use Rattle.faults.proofs.DerivationLaws.{rule-17-there, rule-17-absent}
 use Rattle.faults.proofs.SizeLaws.{tells-sizes}
 use Rattle.faults.proofs.FirstLaws.{
@@ -65,28 +65,31 @@ ordered (x ∷ xs) (y ∷ ys) e = elim (decLt x y) [
     same q (inr (inl e)) = inr (inl (cc))
     same q (inr (inr e)) = inr (inr (inr (sym q, e)))
 
--- Number: a number names one rule
-abbrev ofNumber : ℕ → Number
-ofNumber k =
-    pick (eqb k 12) n12 (pick (eqb k 13) n13 (pick (eqb k 14) n14
-    (pick (eqb k 15) n15 (pick (eqb k 16) n16 (pick (eqb k 17) n17
-    (pick (eqb k 18) n18 (pick (eqb k 19) n19 n20)))))))
+-- Number: a stage and a rank name one rule
+abbrev ofTurn : ℕ → ℕ → Number
+ofTurn stage rank =
+    pick (eqb stage 0) n12 (pick (eqb stage 1) (pick (eqb rank 0) n13 n14)
+    (pick (eqb stage 2) (pick (eqb rank 0) n15 (pick (eqb rank 1) n29 n16))
+    (pick (eqb stage 3) n17 (pick (eqb stage 4) n18 (pick (eqb stage 5) n19 n20)))))
 
 module _ (total : ℕ) (head : List ℕ) (f : File) where
-  numbered : (n : Number) → ofNumber (ruleOf total head f n .number) ≡ n
+  turned : (n : Number) → ofTurn (ruleOf total head f n .stage) (ruleOf total head f n .rank) ≡ n
   unfolding pick
-  numbered n12 = refl
-  numbered n13 = refl
-  numbered n14 = refl
-  numbered n15 = refl
-  numbered n16 = refl
-  numbered n17 = refl
-  numbered n18 = refl
-  numbered n19 = refl
-  numbered n20 = refl
+  turned n12 = refl
+  turned n13 = refl
+  turned n14 = refl
+  turned n15 = refl
+  turned n29 = refl
+  turned n16 = refl
+  turned n17 = refl
+  turned n18 = refl
+  turned n19 = refl
+  turned n20 = refl
 
-  one-number : (n m : Number) → ruleOf total head f n .number ≡ ruleOf total head f m .number → n ≡ m
-  one-number n m e = sym (numbered n) ∙ ap ofNumber e ∙ numbered m
+  one-number : (n m : Number) → ruleOf total head f n .stage ≡ ruleOf total head f m .stage →
+      ruleOf total head f n .rank ≡ ruleOf total head f m .rank → n ≡ m
+  one-number n m a b = sym (turned n) ∙ ap (λ (k : ℕ). ofTurn k (ruleOf total head f n .rank)) a ∙
+      ap (ofTurn (ruleOf total head f m .stage)) b ∙ turned m
 
 module _ (total : ℕ) (head : List ℕ) (f : File) where
   abbrev s : Scene
@@ -117,23 +120,26 @@ module _ (total : ℕ) (head : List ℕ) (f : File) where
         row-is = λ m q i. i .1;
       }
 
-  -- the faults of two numbers in one row
+  -- the faults of two and of three numbers in one row
   abbrev Two : Number → Number → ℕ → Number → ℕ → Type 0
   Two a b r m q = J a r m q ⊎ J b r m q
 
-  two-within : (a b : Number) (stage lap r : ℕ) → Within total head f stage lap r (J a r) →
-      Within total head f stage lap r (J b r) → Within total head f stage lap r (Two a b r)
-  two-within a b stage lap r x y = record { stage-is = st; lap-is = la; row-is = ro }
+  abbrev Three : Number → Number → Number → ℕ → Number → ℕ → Type 0
+  Three a b c r m q = Two a b r m q ⊎ J c r m q
+
+  either-within : (A B : Number → ℕ → Type 0) (stage lap r : ℕ) → Within total head f stage lap r A →
+      Within total head f stage lap r B → Within total head f stage lap r (λ m q. A m q ⊎ B m q)
+  either-within A B stage lap r x y = record { stage-is = st; lap-is = la; row-is = ro }
     where
-      st : (m : Number) (q : ℕ) → Two a b r m q → ruleOf total head f m .stage ≡ stage
+      st : (m : Number) (q : ℕ) → A m q ⊎ B m q → ruleOf total head f m .stage ≡ stage
       st m q (inl i) = x .stage-is m q i
       st m q (inr i) = y .stage-is m q i
 
-      la : (m : Number) (q : ℕ) → Two a b r m q → ruleOf total head f m .lap q ≡ lap
+      la : (m : Number) (q : ℕ) → A m q ⊎ B m q → ruleOf total head f m .lap q ≡ lap
       la m q (inl i) = x .lap-is m q i
       la m q (inr i) = y .lap-is m q i
 
-      ro : (m : Number) (q : ℕ) → Two a b r m q → q ≡ r
+      ro : (m : Number) (q : ℕ) → A m q ⊎ B m q → q ≡ r
       ro m q (inl i) = x .row-is m q i
       ro m q (inr i) = y .row-is m q i
 
@@ -158,18 +164,27 @@ module _ (total : ℕ) (head : List ℕ) (f : File) where
         (examines-check total head f n14 r _ (told n14 r l (tells-bytes (storeFor total head f r) (locationOf f (itemAt f r .id)) (itemAt f r .type))))
 
     -- no fault of image items in an opaque one's row
-    opaque-two : image (itemAt f r .type) ≡ false → (m : Number) (q : ℕ) → Two n15 n16 r m q → F m q → ⊥
-    opaque-two e m q (inl i) w = untrue (sym e ∙ just-fault n15 r m q i w .there .0)
-    opaque-two e m q (inr i) w = untrue (sym e ∙ just-fault n16 r m q i w .there .0)
+    opaque-three : image (itemAt f r .type) ≡ false → (m : Number) (q : ℕ) → Three n15 n29 n16 r m q → F m q → ⊥
+    opaque-three e m q (inl (inl i)) w = untrue (sym e ∙ just-fault n15 r m q i w .there .0)
+    opaque-three e m q (inl (inr i)) w = untrue (sym e ∙ ap image (just-fault n29 r m q i w .there .0))
+    opaque-three e m q (inr i) w = untrue (sym e ∙ just-fault n16 r m q i w .there .0)
 
-    declared-examined : Ex (rule15-16 f (itemAt f r)) (Two n15 n16 r)
-    unfolding rule15-16
+    -- 16 comes behind 15 and 29
+    last-apart : (n : Number) (a : ℕ) (m : Number) (q : ℕ) → Two n15 n29 r n a → J n16 r m q →
+        Earlier (orderOf total head f m q) (orderOf total head f n a) → ⊥
+    last-apart n a m q (inl i) = just-apart total head f n15 n16 r (omega arith) (omega arith) (omega arith) n a m q i
+    last-apart n a m q (inr i) = just-apart total head f n29 n16 r (omega arith) (omega arith) (omega arith) n a m q i
+
+    declared-examined : Ex (rule15-29-16 f (itemAt f r)) (Three n15 n29 n16 r)
+    unfolding rule15-29-16
     declared-examined =
-        both (λ (m : Answer (Unit {0})). Ex m (Two n15 n16 r)) (image (itemAt f r .type)) _ _
-        (λ e. examines-then total head f _ _ (J n15 r) (J n16 r) (just-apart total head f n15 n16 r (omega arith) (omega arith) (omega arith))
+        both (λ (m : Answer (Unit {0})). Ex m (Three n15 n29 n16 r)) (image (itemAt f r .type)) _ _
+        (λ e. examines-then total head f _ _ (Two n15 n29 r) (J n16 r) last-apart
+        (examines-then total head f _ _ (J n15 r) (J n29 r) (just-apart total head f n15 n29 r (omega arith) (omega arith) (omega arith))
         (examines-check total head f n15 r _ (told n15 r l (tells-as (λ w. (e, w)) (λ w. w .1) (tells-readable f (itemAt f r)))))
+        (examines-check total head f n29 r _ (told n29 r l (tells-configured f (itemAt f r)))))
         (examines-check total head f n16 r _ (told n16 r l (tells-as (λ w. (e, w)) (λ w. w .1) (tells-ispe (typesOf f (itemAt f r .id)))))))
-        (λ e. examines-none total head f _ (opaque-two e))
+        (λ e. examines-none total head f _ (opaque-three e))
 
     derived-examined : Ex (rule17 total head f (itemAt f r)) (J n17 r)
     derived-examined =
@@ -271,7 +286,7 @@ module _ (total : ℕ) (head : List ℕ) (f : File) where
 
   -- judged
   abbrev Early : Number → ℕ → Type 0
-  Early n r = ((((J n12 0 n r ⊎ Stage (Two n13 n14) n r) ⊎ Stage (Two n15 n16) n r) ⊎ Stage (J n17) n r) ⊎ Stage (J n18) n r) ⊎ Stage (J n19) n r
+  Early n r = ((((J n12 0 n r ⊎ Stage (Two n13 n14) n r) ⊎ Stage (Three n15 n29 n16) n r) ⊎ Stage (J n17) n r) ⊎ Stage (J n18) n r) ⊎ Stage (J n19) n r
 
   abbrev Asked : Number → ℕ → Type 0
   Asked n r = Early n r ⊎ Laps 17 0 n r
@@ -281,13 +296,16 @@ module _ (total : ℕ) (head : List ℕ) (f : File) where
   primary-examined = examines-check total head f n12 0 _ (told n12 0 (omega arith) (tells-primary f))
 
   placed-within : (r : ℕ) → Within total head f 1 0 r (Two n13 n14 r)
-  placed-within r = two-within n13 n14 1 0 r (just-within n13 1 0 r refl refl) (just-within n14 1 0 r refl refl)
+  placed-within r = either-within (J n13 r) (J n14 r) 1 0 r (just-within n13 1 0 r refl refl) (just-within n14 1 0 r refl refl)
 
-  declared-within : (r : ℕ) → Within total head f 2 0 r (Two n15 n16 r)
-  declared-within r = two-within n15 n16 2 0 r (just-within n15 2 0 r refl refl) (just-within n16 2 0 r refl refl)
+  declared-within : (r : ℕ) → Within total head f 2 0 r (Three n15 n29 n16 r)
+  declared-within r =
+      either-within (Two n15 n29 r) (J n16 r) 2 0 r
+      (either-within (J n15 r) (J n29 r) 2 0 r (just-within n15 2 0 r refl refl) (just-within n29 2 0 r refl refl))
+      (just-within n16 2 0 r refl refl)
 
   early-examined : Ex (rule12 f >> inOrder (λ r i. rule13-14 total head f i) 0 (f .items) >>
-      inOrder (λ r i. rule15-16 f i) 0 (f .items) >> inOrder (λ r i. rule17 total head f i) 0 (f .items) >>
+      inOrder (λ r i. rule15-29-16 f i) 0 (f .items) >> inOrder (λ r i. rule17 total head f i) 0 (f .items) >>
       inOrder (rule18 s) 0 (f .items) >> inOrder (rule19 s) 0 (f .items)) Early × Below 6 Early
   early-examined =
       next-stage 5 _ _ _ _
@@ -310,7 +328,8 @@ module _ (total : ℕ) (head : List ℕ) (f : File) where
   asked-all n12 r w = let l = w .listed in inl (inl (inl (inl (inl (inl (inl (refl, (omega arith))))))))
   asked-all n13 r w = inl (inl (inl (inl (inl (inl (inr (r, w .listed, inl (refl, (omega arith)))))))))
   asked-all n14 r w = inl (inl (inl (inl (inl (inl (inr (r, w .listed, inr (refl, (omega arith)))))))))
-  asked-all n15 r w = inl (inl (inl (inl (inl (inr (r, w .listed, inl (refl, (omega arith))))))))
+  asked-all n15 r w = inl (inl (inl (inl (inl (inr (r, w .listed, inl (inl (refl, (omega arith)))))))))
+  asked-all n29 r w = inl (inl (inl (inl (inl (inr (r, w .listed, inl (inr (refl, (omega arith)))))))))
   asked-all n16 r w = inl (inl (inl (inl (inl (inr (r, w .listed, inr (refl, (omega arith))))))))
   asked-all n17 r w = inl (inl (inl (inl (inr (r, w .listed, (refl, (omega arith)))))))
   asked-all n18 r w = inl (inl (inl (inr (r, w .listed, (refl, (omega arith))))))
@@ -376,7 +395,10 @@ module _ (total : ℕ) (head : List ℕ) (f : File) where
           ((orderOf total head f n r ≡ orderOf total head f m q) ⊎
           Earlier (orderOf total head f m q) (orderOf total head f n r)) → (n ≡ m) × (r ≡ q)
       by (inl e) = absurd (y .none-before n r e (x .present))
-      by (inr (inl e)) = (one-number total head f n m (ap (λ (l : List ℕ). getD l 3 0) e), ap (λ (l : List ℕ). getD l 2 0) e)
+      by (inr (inl e)) = (
+        one-number total head f n m (ap (λ (l : List ℕ). getD l 0 0) e) (ap (λ (l : List ℕ). getD l 3 0) e),
+        ap (λ (l : List ℕ). getD l 2 0) e,
+      )
       by (inr (inr e)) = absurd (x .none-before m q e (y .present))
 
   pub first-judged : (n : Number) (r : ℕ) → First total head f n r →

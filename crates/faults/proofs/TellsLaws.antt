@@ -40,9 +40,12 @@ tells-not true = record { there = λ e. refl; absent = λ e w. untrue e }
 tells-not false = record { there = λ e. untrue (sym e); absent = λ e w. untrue w }
 
 -- what is needed only where a is true
+pub tells-where : (a b : Bool) {W : Type 0} → Tells b W → Tells (not a || b) ((a ≡ true) × W)
+tells-where true b k = tells-as (λ w. (refl, w)) (λ w. w .1) k
+tells-where false b k = record { there = λ e. untrue (sym e); absent = λ e w. untrue (w .0) }
+
 pub tells-if : (a b : Bool) → Tells (not a || b) ((a ≡ true) × (b ≡ false))
-tells-if true b = tells-as (λ w. (refl, w)) (λ w. w .1) (tells-itself b)
-tells-if false b = record { there = λ e. untrue (sym e); absent = λ e w. untrue (w .0) }
+tells-if a b = tells-where a b (tells-itself b)
 
 -- eqb, leb
 pub tells-equal : (a b : ℕ) → Tells (eqb a b) (Not (a ≡ b))

@@ -1,4 +1,5 @@
--- Faults of a file: document 01, "Refusal numbers", rows 12 to 20, each as a type that says when the fault is there. No order, no reading, no answer.
+-- Faults of a file: document 01, "Refusal numbers", rows 12 to 20, and 29 of document 02, each as a type that says when
+-- the fault is there. No order, no reading, no answer.
 --   Any P l                     P of one of l
 --   PrimaryWrong f, ..          one type for each row of the table, one case for each thing that the row names
 --   ruleOf total head f n       the row n of the table
@@ -10,7 +11,7 @@ use mathlib.Core.Bool.{Bool, true, false}
 use mathlib.Core.Logic.{_⊎_}
 use lib.ListN.{length, take, drop}
 use Rattle.fields.specs.Lists.{member}
-use Rattle.boxes.specs.Types.{ispe, iden, grid, iovl, knownProperty, coded, derived, image}
+use Rattle.boxes.specs.Types.{ispe, hvc1, iden, grid, iovl, knownProperty, coded, derived, image}
 use Rattle.boxes.specs.Box.{kindOf}
 use Rattle.forms.specs.Form.{Form}
 use Rattle.contents.specs.Iinf.{Item}
@@ -26,7 +27,7 @@ use Rattle.pictures.specs.Depth.{Derives, depth}
 use Rattle.rules.specs.Joined.{locationOf, associationsOf, targetsOf, propertyAt, typesOf, rowOf, itemAt}
 use Rattle.rules.specs.Bytes.{Store, storeOf}
 use Rattle.rules.specs.Derivations.{sceneOf}
-use Rattle.rules.specs.Rules.{countOf}
+use Rattle.rules.specs.Rules.{configurations, countOf}
 
 abbrev pub Any : {A : Type 0} → (A → Type 0) → List A → Type 0
 Any P [] = ⊥
@@ -57,6 +58,11 @@ pub data NotReadable (f : File) (i : Item) : Type 0 where
   protected : Not (i .protection ≡ 0) → NotReadable f i
   unknown : Any (λ (a : Association). (a .essential ≡ true) ×
       (knownProperty (kindOf (propertyAt f (a .index))) ≡ false)) (associationsOf f (i .id)) → NotReadable f i
+
+-- 29, Q-5: "An `hvc1` item must have exactly one `hvcC`, marked essential."; of each association to an `hvcC` whether it is marked
+pub data WrongConfiguration (marks : List Bool) : Type 0 where
+  not-one : Not (length marks ≡ 1) → WrongConfiguration marks
+  unmarked : Any (λ (m : Bool). m ≡ false) marks → WrongConfiguration marks
 
 -- 16: "image item without exactly one `ispe` association, or `ispe` after a transform"; ks the types of its properties in association order
 pub data WrongIspe (ks : List ℕ) : Type 0 where
@@ -107,22 +113,25 @@ pub data WrongSizes (s : Scene) (p : Picture) : Type 0 where
 
 -- A row of the table: its number; its turn in the "Order of reading", where `stage` counts "Then 12. Then for each item
 -- in table order 13 before 14; then for each image item 15 before 16; then 17 for each item; 18 and then 19 ..; then
--- 20", and `lap` is the depth for 20, "by rising depth"; how many rows it is asked of; the place, by row; and the fault
--- itself.
+-- 20", `lap` is the depth for 20, "by rising depth", and `rank` says which of the rules of a stage is asked of an item
+-- first, which is not always that of the smaller number ("29, checked for each image item between 15 and 16"); how many
+-- rows it is asked of; the place, by row; and the fault itself.
 pub record Rule : Type 1 where
   pub number : ℕ
   pub stage : ℕ
   pub lap : ℕ → ℕ
+  pub rank : ℕ
   pub rows : ℕ
   pub place : ℕ → ℕ
   pub Wrong : ℕ → Type 0
 
 -- asked of each item, its place the item's ID
-abbrev pub ofItems : File → ℕ → ℕ → (ℕ → Type 0) → Rule
-ofItems f n stage W = record { number = n; stage = stage; lap = λ r. 0; rows = length (f .items); place = λ r. itemAt f r .id; Wrong = W }
+abbrev pub ofItems : File → ℕ → ℕ → ℕ → (ℕ → Type 0) → Rule
+ofItems f n stage rank W =
+    record { number = n; stage = stage; lap = λ r. 0; rank = rank; rows = length (f .items); place = λ r. itemAt f r .id; Wrong = W }
 
 pub data Number : Type 0 where
-  n12 n13 n14 n15 n16 n17 n18 n19 n20 : Number
+  n12 n13 n14 n15 n29 n16 n17 n18 n19 n20 : Number
 
 -- 12 is a fault of the file and not of a row: it stands at row 0. 18: "item derived from itself". 19: "depth over 16".
 module _ (total : ℕ) (head : List ℕ) (f : File) where
@@ -130,19 +139,21 @@ module _ (total : ℕ) (head : List ℕ) (f : File) where
   storeFor r = storeOf total head f (locationOf f (itemAt f r .id) .method)
 
   abbrev pub ruleOf : Number → Rule
-  ruleOf n12 = record { number = 12; stage = 0; lap = λ r. 0; rows = 1; place = λ r. f .primary; Wrong = λ r. PrimaryWrong f }
-  ruleOf n13 = ofItems f 13 1 (λ r. WrongPlace (locationOf f (itemAt f r .id)))
-  ruleOf n14 = ofItems f 14 1 (λ r. WrongBytes (storeFor r) (locationOf f (itemAt f r .id)) (itemAt f r .type))
-  ruleOf n15 = ofItems f 15 2 (λ r. (image (itemAt f r .type) ≡ true) × NotReadable f (itemAt f r))
-  ruleOf n16 = ofItems f 16 2 (λ r. (image (itemAt f r .type) ≡ true) × WrongIspe (typesOf f (itemAt f r .id)))
-  ruleOf n17 = ofItems f 17 3 (λ r. WrongDerivation f (storeFor r) (locationOf f (itemAt f r .id)) (itemAt f r .type) (targetsOf f (itemAt f r .id)))
-  ruleOf n18 = ofItems f 18 4 (λ r. Derives (sceneOf total head f) r r)
-  ruleOf n19 = ofItems f 19 5 (λ r. 16 < depth (sceneOf total head f) r)
+  ruleOf n12 = record { number = 12; stage = 0; lap = λ r. 0; rank = 0; rows = 1; place = λ r. f .primary; Wrong = λ r. PrimaryWrong f }
+  ruleOf n13 = ofItems f 13 1 0 (λ r. WrongPlace (locationOf f (itemAt f r .id)))
+  ruleOf n14 = ofItems f 14 1 1 (λ r. WrongBytes (storeFor r) (locationOf f (itemAt f r .id)) (itemAt f r .type))
+  ruleOf n15 = ofItems f 15 2 0 (λ r. (image (itemAt f r .type) ≡ true) × NotReadable f (itemAt f r))
+  ruleOf n29 = ofItems f 29 2 1 (λ r. (itemAt f r .type ≡ hvc1) × WrongConfiguration (configurations f (associationsOf f (itemAt f r .id))))
+  ruleOf n16 = ofItems f 16 2 2 (λ r. (image (itemAt f r .type) ≡ true) × WrongIspe (typesOf f (itemAt f r .id)))
+  ruleOf n17 = ofItems f 17 3 0 (λ r. WrongDerivation f (storeFor r) (locationOf f (itemAt f r .id)) (itemAt f r .type) (targetsOf f (itemAt f r .id)))
+  ruleOf n18 = ofItems f 18 4 0 (λ r. Derives (sceneOf total head f) r r)
+  ruleOf n19 = ofItems f 19 5 0 (λ r. 16 < depth (sceneOf total head f) r)
   ruleOf n20 =
       record {
         number = 20;
         stage = 6;
         lap = λ r. depth (sceneOf total head f) r;
+        rank = 0;
         rows = length (f .items);
         place = λ r. itemAt f r .id;
         Wrong = λ r. (image (itemAt f r .type) ≡ true) × WrongSizes (sceneOf total head f) (pictureAt (sceneOf total head f) r);

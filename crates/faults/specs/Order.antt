@@ -1,5 +1,5 @@
 -- Which fault is given: document 01, "first fault given".
---   orderOf total head f n r    when the fault n of the item in row r has its turn: its stage; for 20 the depth; the row; the number
+--   orderOf total head f n r    when the fault n of the item in row r has its turn: its stage; for 20 the depth; the row; its rank
 --   Earlier a b                a comes before b: the first number in which they differ is smaller
 --   First total head f n r     the fault is there, and none that has its turn before it
 use Prim.Native.Nat.{ℕ, _<_}
@@ -15,7 +15,7 @@ Earlier (x ∷ xs) [] = ⊥
 Earlier (x ∷ xs) (y ∷ ys) = (x < y) ⊎ ((x ≡ y) × Earlier xs ys)
 
 abbrev pub orderBy : Rule → ℕ → List ℕ
-orderBy u r = u .stage ∷ u .lap r ∷ r ∷ u .number ∷ []
+orderBy u r = u .stage ∷ u .lap r ∷ r ∷ u .rank ∷ []
 
 module _ (total : ℕ) (head : List ℕ) (f : File) where
   abbrev pub orderOf : Number → ℕ → List ℕ

@@ -15,7 +15,7 @@ use Rattle.pictures.specs.Depth.{depth}
 use Rattle.rules.specs.Joined.{rowOf}
 use Rattle.rules.specs.Places.{Places, placesIn}
 use Rattle.rules.specs.Derivations.{sceneOf}
-use Rattle.rules.specs.Rules.{goodPrimary, inOrder, rule12, rule15-16, judged}
+use Rattle.rules.specs.Rules.{goodPrimary, inOrder, rule12, rule15-29-16, judged}
 use Rattle.rules.specs.Words.{wordsOf}
 use Rattle.records.specs.inner.Raw.{Bounded}
 use Rattle.records.specs.inner.Rows.{Rowed}
@@ -124,7 +124,7 @@ module _ (head t x : List ℕ) (total idat : ℕ) (f : File) (w : Read t head to
           fed = fed;
         }
 
--- toldFilled: 15 or 16 refuses, or what comes behind decides
+-- toldFilled: 15, 29 or 16 refuses, or what comes behind decides
 module _ (m k : Answer (Unit {0})) where
   filled-off : (y : Refusal) → toldFilled m ≡ filled.Refused y → Refused y ≡ toldJudged (m >> k)
   unfolding toldFilled toldJudged _>>_
@@ -146,7 +146,7 @@ module _ (m k : Answer (Unit {0})) where
 module _ (head t x : List ℕ) (total idat : ℕ) (f : File) (w : Read t head total idat f x) (few : total < 18446744073709551616)
     (n : ℕ) (rows d u : List ℕ) (s : Filled) (v : Judged) (counted : n ≡ getD t 0 0) (resolved : Resolved t rows f) (placed : AllPlaced total head f)
     (derives : v ≡ toldJudged (inOrder (ruleBy Derived total head f) 0 (f .items)))
-    (declares : s ≡ toldFilled (inOrder (λ (r : ℕ) (i : Item). rule15-16 f i) 0 (f .items)))
+    (declares : s ≡ toldFilled (inOrder (λ (r : ℕ) (i : Item). rule15-29-16 f i) 0 (f .items)))
     (deep : (s : Scene) → length s ≡ n → InputsAre t rows s → (r : ℕ) → r < n → getD d r 0 ≡ depth s r)
     (fills : ((r : ℕ) → r < length (f .items) → getD d r 0 ≡ depth (sceneOf total head f) r) → s ≡ filled.All → u ≡ wordsOf total head f ++ x) where
   -- what is refused leaves nothing to say of the table
@@ -154,7 +154,7 @@ module _ (head t x : List ℕ) (total idat : ℕ) (f : File) (w : Read t head to
   unfolding toldJudged
   refused-rest y e = record { answer = e; left = λ o. let z : _≡_ {A = ℕ} 0 1 = cc in absurd (omega arith) }
 
-  -- 15 and 16
+  -- 15, 29 and 16
   pub declared-off : (y : Refusal) → s ≡ filled.Refused y → RestBy head total f x (Refused y) u
   unfolding restJudged
   declared-off y e = refused-rest y (filled-off _ _ y (sym declares ∙ e))

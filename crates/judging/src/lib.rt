@@ -1,4 +1,4 @@
-// Judging: refusals 12 to 20 in the order of document 01, and the sizes into the table.
+// Judging: refusals 12 to 20 and 29 in the order of document 01, and the sizes into the table.
 ghost use mathlib.Core.Path.{_≡_};
 ghost use mathlib.Core.List.{List};
 ghost use mathlib.Core.Bool.{_&&_, not};
@@ -32,7 +32,7 @@ pub enum Judged {
 pub enum Rule {
     // 13 before 14.
     Placed,
-    // 17, 18, 19. 15 and 16 are asked where the sizes are filled in.
+    // 17, 18, 19. 15, 29 and 16 are asked where the sizes are filled in.
     Derived,
     Itself,
     Deep,
@@ -215,9 +215,9 @@ fn judge_pictures(head: &[u8], ends: Ends, table: &[u32], rows: &[u32]) -> Judge
     }
 }
 
-// 15 to 20, for a file that keeps 12 to 14. 15 and 16 are judged where sizes and depths are filled in, and depths are
-// right only where 17 is kept: so 17 is asked first, on the table as it was read, and what it says waits. Two calls of
-// `fill_sizes`, so that its loop stays a function of its own (items::read_items).
+// 15 to 20, for a file that keeps 12 to 14. 15, 29 and 16 are judged where sizes and depths are filled in, and depths
+// are right only where 17 is kept: so 17 is asked first, on the table as it was read, and what it says waits. Two calls
+// of `fill_sizes`, so that its loop stays a function of its own (items::read_items).
 fn judge_placed(head: &[u8], ends: Ends, table: &mut [u32], rows: &[u32]) -> Judged
     requires { ⌜ ((f : File) × (x : List ℕ) × Read (now table) (now head) (ends .total) (ends .idat) f x) ⌝ }
     ensures { λ r. ⌜ ((f : File) (x : List ℕ) →
@@ -247,7 +247,7 @@ fn judge_placed(head: &[u8], ends: Ends, table: &mut [u32], rows: &[u32]) -> Jud
     }
 }
 
-// The table of a file that was read becomes that of the accepted file, or the first fault of 12 to 20 is given.
+// The table of a file that was read becomes that of the accepted file, or the first fault of 12 to 20 and 29 is given.
 pub fn judge(head: &[u8], ends: Ends, table: &mut [u32], rows: &[u32]) -> Judged
     requires { ⌜ ((f : File) × (x : List ℕ) × Read (now table) (now head) (ends .total) (ends .idat) f x) ×
         Rowed (now table) (now rows) ⌝ }

@@ -36,7 +36,7 @@ fn print_row(number: u32) {
 
 fn main() {
     say(1, b"| No. | in words | place |\n|---|---|---|\n");
-    for number in 1..29 {
+    for number in 1..30 {
         print_row(number);
     }
 }

@@ -21,9 +21,10 @@ use Rattle.rules.specs.Derivations.{allImages, recipeOf, pictureOf, scen
 use Rattle.rules.specs.Rules.{
   inOrder,
   essentialKnown,
+  configurations,
   rule12,
   rule13-14,
-  rule15-16,
+  rule15-29-16,
   rule17,
   rule18,
   rule19,
@@ -61,6 +62,7 @@ pub record Alike (total : ℕ) (head new : List ℕ) (f g : File) : Type 0 where
   pub stored : length (g .idat) ≡ length (f .idat)
   pub boxes : (id : ℕ) → boxesOf g id ≡ boxesOf f id
   pub known : (id : ℕ) → essentialKnown g (associationsOf g id) ≡ essentialKnown f (associationsOf f id)
+  pub configured : (id : ℕ) → configurations g (associationsOf g id) ≡ configurations f (associationsOf f id)
   pub bodies : All (SameBody total head new f g) (f .items)
 
 module _ (total : ℕ) (head new : List ℕ) (f g : File) (k : Alike total head new f g) where
@@ -89,9 +91,9 @@ module _ (total : ℕ) (head new : List ℕ) (f g : File) (k : Alike total head 
   unfolding rule12
   same-12 = rw (k .primary, k .items)
 
-  pub same-15-16 : (i : Item) → rule15-16 g i ≡ rule15-16 f i
-  unfolding rule15-16
-  same-15-16 i = rw (k .known (i .id), k .boxes (i .id))
+  pub same-15-29-16 : (i : Item) → rule15-29-16 g i ≡ rule15-29-16 f i
+  unfolding rule15-29-16
+  same-15-29-16 i = rw (k .known (i .id), k .configured (i .id), k .boxes (i .id))
 
   pub same-17 : (i : Item) → SameBody total head new f g i → rule17 total new g i ≡ rule17 total head f i
   unfolding rule17
@@ -107,8 +109,8 @@ module _ (total : ℕ) (head new : List ℕ) (f g : File) (k : Alike total head 
   pub all-13-14 : InOrder (λ r i. rule13-14 total new g i) (λ r i. rule13-14 total head f i)
   all-13-14 = in-order _ _ (all-of _ (λ i r. same-13-14 total head new f g (k .stored) (k .locations) i) (f .items))
 
-  pub all-15-16 : InOrder (λ r i. rule15-16 g i) (λ r i. rule15-16 f i)
-  all-15-16 = in-order _ _ (all-of _ (λ i r. same-15-16 i) (f .items))
+  pub all-15-29-16 : InOrder (λ r i. rule15-29-16 g i) (λ r i. rule15-29-16 f i)
+  all-15-29-16 = in-order _ _ (all-of _ (λ i r. same-15-29-16 i) (f .items))
 
   pub all-17 : InOrder (λ r i. rule17 total new g i) (λ r i. rule17 total head f i)
   all-17 = in-order _ _ (all-more (SameBody total head new f g) _ (λ i e r. same-17 i e) (f .items) (k .bodies))
@@ -127,4 +129,4 @@ module _ (total : ℕ) (head new : List ℕ) (f g : File) (k : Alike total head 
   -- judged
   pub judged-same : judged total new g ≡ judged total head f
   unfolding judged
-  judged-same = rw (same-12, all-13-14, all-15-16, all-17, all-18, all-19, all-20)
+  judged-same = rw (same-12, all-13-14, all-15-29-16, all-17, all-18, all-19, all-20)

@@ -1,7 +1,7 @@
--- Refusals 12 to 20: document 01, "Refusal numbers" and "Order of reading", on the file's structure. The place is an item's ID.
+-- Refusals 12 to 20 and 29: document 01, "Refusal numbers" and "Order of reading", on the file's structure. The place is an item's ID.
 --   goodPrimary, .., each a test of one rule on one item;   rule12, .., the refusal by it
 --   inOrder rule items    the first refusal, in table order
---   judged total head f   12; 13 before 14 for each item; 15 before 16 for each image item; 17 for each item; 18; 19; 20 by rising depth
+--   judged total head f   12; 13 before 14 for each item; 15, 29, 16 for each image item; 17 for each item; 18; 19; 20 by rising depth
 use Prim.Native.Nat.{ℕ, zero, suc, _+_}
 use mathlib.Core.List.{List, [], _∷_}
 use mathlib.Core.Bool.{Bool, true, false, _&&_, _||_, not}
@@ -9,7 +9,7 @@ use lib.ListN.{length}
 use lib.Dec.{leb, eqb}
 use Rattle.fields.specs.Choice.{pick}
 use Rattle.boxes.specs.Answer.{Answer, ok, refuse, check, _>>=_, _>>_}
-use Rattle.boxes.specs.Types.{ispe, knownProperty, coded, image}
+use Rattle.boxes.specs.Types.{ispe, hvcC, hvc1, knownProperty, coded, image}
 use Rattle.boxes.specs.Box.{kindOf}
 use Rattle.contents.specs.Iinf.{Item}
 use Rattle.contents.specs.Ipma.{Association}
@@ -40,6 +40,22 @@ unfoldable pub essentialKnown : File → List Association → Bool
 essentialKnown f [] = true
 essentialKnown f (a ∷ rest) = (not (a .essential) || knownProperty (kindOf (propertyAt f (a .index)))) && essentialKnown f rest
 
+-- of each association to an `hvcC` whether it is marked essential, in order
+unfoldable pub configurations : File → List Association → List Bool
+configurations f [] = []
+configurations f (a ∷ rest) =
+    pick (eqb (kindOf (propertyAt f (a .index))) hvcC) (a .essential ∷ configurations f rest) (configurations f rest)
+
+-- exactly one, and that one marked
+unfoldable pub oneMarked : List Bool → Bool
+oneMarked [] = false
+oneMarked (m ∷ []) = m
+oneMarked (m ∷ (n ∷ ms)) = false
+
+-- Q-5: "An `hvc1` item must have exactly one `hvcC`, marked essential." (29) Associations are counted, as in 16.
+abbrev pub configured : File → Item → Bool
+configured f i = not (eqb (i .type) hvc1) || oneMarked (configurations f (associationsOf f (i .id)))
+
 unfoldable pub countOf : ℕ → List ℕ → ℕ
 countOf k [] = 0
 countOf k (x ∷ xs) = pick (eqb x k) 1 0 + countOf k xs
@@ -62,11 +78,13 @@ rule13-14 total head f i =
     check 13 (i .id) (goodMethod (locationOf f (i .id)) && goodLengths (locationOf f (i .id)))
     >> check 14 (i .id) (within (storeOf total head f (locationOf f (i .id) .method)) (locationOf f (i .id)) && hasBytes f i)
 
--- "then for each image item 15 before 16"
-unfoldable pub rule15-16 : File → Item → Answer (Unit {0})
-rule15-16 f i =
+-- "then for each image item 15 before 16"; Q-5: "29, checked for each image item between 15 and 16"
+unfoldable pub rule15-29-16 : File → Item → Answer (Unit {0})
+rule15-29-16 f i =
     pick (image (i .type))
-    (check 15 (i .id) (eqb (i .protection) 0 && essentialKnown f (associationsOf f (i .id))) >> check 16 (i .id) (goodIspe (typesOf f (i .id))))
+    (check 15 (i .id) (eqb (i .protection) 0 && essentialKnown f (associationsOf f (i .id)))
+    >> check 29 (i .id) (configured f i)
+    >> check 16 (i .id) (goodIspe (typesOf f (i .id))))
     (ok tt)
 
 unfoldable pub rule17 : ℕ → List ℕ → File → Item → Answer (Unit {0})
@@ -92,7 +110,7 @@ unfoldable pub judged : ℕ → List ℕ → File → Answer (Unit {0})
 judged total head f =
     rule12 f
     >> inOrder (λ r i. rule13-14 total head f i) 0 (f .items)
-    >> inOrder (λ r i. rule15-16 f i) 0 (f .items)
+    >> inOrder (λ r i. rule15-29-16 f i) 0 (f .items)
     >> inOrder (λ r i. rule17 total head f i) 0 (f .items)
     >> inOrder (rule18 (sceneOf total head f)) 0 (f .items)
     >> inOrder (rule19 (sceneOf total head f)) 0 (f .items)

@@ -55,7 +55,7 @@ unfolding sheet ask pick beAt Answer._>>=_ Answer._>>_ Answer.check
     Bytes.allExtents Bytes.bodyBy Joined.locatedAt Joined.namedFor Joined.derivedFrom Joined.propertyAt Joined.rowOf
     Derivations.allImages Derivations.copyOf Derivations.tilesOf Derivations.layersOf Derivations.recipeFor Derivations.asRule17
     Derivations.recipeOr Derivations.declaredIn Derivations.pictureOf
-    Rules.inOrder Rules.essentialKnown Rules.countOf Rules.ispeBefore Rules.rule12 Rules.rule13-14 Rules.rule15-16 Rules.rule17
+    Rules.inOrder Rules.essentialKnown Rules.countOf Rules.ispeBefore Rules.rule12 Rules.rule13-14 Rules.rule15-29-16 Rules.rule17
     Rules.rule18 Rules.rule19 Rules.rule20 Rules.byDepth Rules.judged
     Opening.accepted Opening.opened Opening.listed Opening.pictured
     Questions.verdictIn Questions.sizeIn Questions.foundBy Questions.traceIn Questions.verdict Questions.size Questions.trace

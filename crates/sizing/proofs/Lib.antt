@@ -1,4 +1,5 @@
 pub mod FillLaws
+pub mod PropertiesLaws
 pub mod FaultLaws
 pub mod BeforeLaws
 pub mod OrderLaws

@@ -13,7 +13,7 @@ use Rattle.boxes.specs.Answer.{Answer, ok, refuse, check, _>>_}
 use Rattle.contents.specs.Iinf.{Item}
 use Rattle.contents.specs.File.{File}
 use Rattle.rules.specs.Joined.{noItem, itemAt}
-use Rattle.rules.specs.Rules.{inOrder, rule15-16}
+use Rattle.rules.specs.Rules.{inOrder, rule15-29-16}
 use Rattle.views.specs.inner.Told.{faultOf}
 
 abbrev pub Blames : ℕ → Answer (Unit {0}) → Type 0
@@ -30,11 +30,11 @@ unfolding _>>_
 then-blames id (ok u) b x y = y
 then-blames id (refuse n p) b x y = x
 
--- rule15-16
-pub declared-blames : (f : File) (i : Item) → Blames (i .id) (rule15-16 f i)
-unfolding rule15-16
-declared-blames f i = both (Blames (i .id)) _ _ _ (λ e. then-blames (i .id) _ _ (check-blames 15 _ _ (omega arith))
-    (check-blames 16 _ _ (omega arith))) (λ e. tt)
+-- rule15-29-16
+pub declared-blames : (f : File) (i : Item) → Blames (i .id) (rule15-29-16 f i)
+unfolding rule15-29-16
+declared-blames f i = both (Blames (i .id)) _ _ _ (λ e. then-blames (i .id) _ _ (then-blames (i .id) _ _
+    (check-blames 15 _ _ (omega arith)) (check-blames 29 _ _ (omega arith))) (check-blames 16 _ _ (omega arith))) (λ e. tt)
 
 -- a number that is 0 is no fault, another is that of the item
 fault-none : (id : ℕ) (m : Answer (Unit {0})) → Blames id m → 0 ≡ faultOf m → m ≡ ok tt

@@ -1,6 +1,6 @@
 -- TableOf while sizes and depths are put into the records: no word that it speaks of changes. Assumes nothing.
 --   Beside k i                the word i is none of those of row k that say its sizes and its depth
---   byRow f                   15 and 16 of each item
+--   byRow f                   15, 29 and 16 of each item
 -- Standing head u pl f k    the table u is the file's, nothing was put into the rows from k on, the sizes in the one
 -- before are its item's, and no item before them is refused
 --   Stands head t k u         so it is for every file whose table t was
@@ -21,7 +21,7 @@ use Rattle.contents.specs.Iinf.{Item}
 use Rattle.contents.specs.File.{File}
 use Rattle.rules.specs.Joined.{itemAt}
 use Rattle.rules.specs.Places.{Places}
-use Rattle.rules.specs.Rules.{inOrder, rule15-16}
+use Rattle.rules.specs.Rules.{inOrder, rule15-29-16}
 use Rattle.records.proofs.SetsLaws.{sets-below, sets-above}
 use Rattle.views.specs.inner.View.{TableOf, Judging, recordWord, wide, idOf}
 use Rattle.views.specs.inner.Told.{faultOf}
@@ -99,7 +99,7 @@ module _ (t u : List ℕ) (k : ℕ) (small : k < 256) (long : length u ≡ lengt
       }
 
 abbrev byRow : File → ℕ → Item → Answer (Unit {0})
-byRow f k i = rule15-16 f i
+byRow f k i = rule15-29-16 f i
 
 pub record Standing (head u : List ℕ) (pl : Places) (f : File) (k : ℕ) : Type 0 where
   pub view : TableOf u head pl f
@@ -119,7 +119,7 @@ module _ (head t : List ℕ) where
     module _ (d m : ℕ) (w : List ℕ) (l : k < n)
         (fault : (pl : Places) (f : File) → TableOf u head pl f → k < length (f .items) →
         recordWord u k 12 ≡ itemAt f k .protection → ToldBefore u f k →
-        m ≡ faultOf (rule15-16 f (itemAt f k))) where
+        m ≡ faultOf (rule15-29-16 f (itemAt f k))) where
       pub stands-more : ((pl : Places) (f : File) → TableOf u head pl f → k < length (f .items) → ToldBefore u f k →
           m ≡ 0 → w ≡ sets u (26 + 16 * k) (sizesIn f k d)) → m ≡ 0 → Stands head t (k + 1) w
       stands-more put z pl f v j =

@@ -17,13 +17,12 @@ ghost use Rattle.pictures.specs.Depth.{depth};
 ghost use Rattle.rules.specs.Joined.{itemAt};
 ghost use Rattle.rules.specs.Places.{Places, placesIn};
 ghost use Rattle.rules.specs.Derivations.{sceneOf};
-ghost use Rattle.rules.specs.Rules.{inOrder, rule15-16};
+ghost use Rattle.rules.specs.Rules.{inOrder, rule15-29-16};
 ghost use Rattle.rules.specs.Words.{headWords, wordsOf};
 ghost use Rattle.records.specs.inner.Raw.{rawOf};
 ghost use Rattle.views.specs.inner.View.{TableOf, SizesAre, AllPlaced, recordWord, idOf};
-ghost use Rattle.declared.specs.inner.Told.{toldSizes};
 ghost use Rattle.views.specs.inner.Told.{faultOf};
-ghost use Rattle.sizing.specs.inner.Drawn.{sizesFor, sizesIn, ToldBefore, Drawn, tilesFit};
+ghost use Rattle.sizing.specs.inner.Drawn.{sizesFor, sizesIn, toldProperties, ToldBefore, Drawn, tilesFit};
 ghost use Rattle.sizing.specs.inner.Told.{toldFilled};
 use boxes::Refusal;
 use declared::SizesRead;
@@ -46,10 +45,11 @@ fn put_sizes(table: &mut [u32], row: ItemRow, s: Size, o: Size, depth: u32)
 }
 
 // The sizes of the picture in a row, where those of the rows before it stand in their records. A camera gives the tiles
-// of a grid the same properties: the row before is looked at first. Its width is 0 where it is opaque.
+// of a grid the same properties: the row before is looked at first, and what it has kept is kept here where the type is
+// the same too. Its width is 0 where it is opaque.
 fn sizes_of(head: &[u8], table: &[u32], row: ItemRow) -> SizesRead
     ensures { λ r. ⌜ ((pl : Places) (f : File) → TableOf (now (table .entry)) (now (head .entry)) pl f →
-        row .0 < length (f .items) → ToldBefore (now (table .entry)) f (row .0) → r ≡ toldSizes f (idOf f (row .0))) ⌝ }
+        row .0 < length (f .items) → ToldBefore (now (table .entry)) f (row .0) → r ≡ toldProperties f (row .0)) ⌝ }
 {
     let r = row.0;
     if 0 < r {
@@ -70,15 +70,18 @@ fn sizes_of(head: &[u8], table: &[u32], row: ItemRow) -> SizesRead
             }
         }
     }
-    declared::read_sizes(head, table, row)
+    if declared::is_configured(table, row) {
+        return declared::read_sizes(head, table, row);
+    }
+    SizesRead::Wrong
 }
 
-// The sizes and depth of the item in a row into its record; an opaque one has none. Where 15 or 16 refuses it, the number.
+// The sizes and depth of the item in a row into its record; an opaque one has none. Where 15, 29 or 16 refuses it, the number.
 fn fill_row(head: &[u8], table: &mut [u32], row: ItemRow, depth: u32) -> u32
     requires { ⌜ (11280 ≤ length (now table)) × (row .0 < 256) ⌝ }
     ensures { λ r. ⌜ ((pl : Places) (f : File) → TableOf (now (table .entry)) (now (head .entry)) pl f →
         row .0 < length (f .items) → recordWord (now (table .entry)) (row .0) 12 ≡ itemAt f (row .0) .protection →
-        ToldBefore (now (table .entry)) f (row .0) → r ≡ faultOf (rule15-16 f (itemAt f (row .0)))) ⌝ }
+        ToldBefore (now (table .entry)) f (row .0) → r ≡ faultOf (rule15-29-16 f (itemAt f (row .0)))) ⌝ }
     ensures { λ r. ⌜ ((pl : Places) (f : File) → TableOf (now (table .entry)) (now (head .entry)) pl f →
         row .0 < length (f .items) → ToldBefore (now (table .entry)) f (row .0) → r ≡ 0 →
         now (table .exit) ≡ sets (now (table .entry)) (26 + 16 * row .0) (sizesIn f (row .0) depth)) ⌝ }
@@ -108,12 +111,12 @@ pub enum Filled {
     Refused(Refusal),
 }
 
-// The sizes and depths of all items, or the first that 15 or 16 refuses.
+// The sizes and depths of all items, or the first that 15, 29 or 16 refuses.
 pub fn fill_sizes(head: &[u8], table: &mut [u32], depths: &[u32]) -> Filled
     ensures { λ r. ⌜ ((total : ℕ) (f : File) (x : List ℕ) → total < 18446744073709551616 →
         readFile total (now (head .entry)) ≡ ok f → now (table .entry) ≡ rawOf (headWords total f)
         (placesIn total (now (head .entry))) f ++ x → r ≡ toldFilled
-        (inOrder (λ (k : ℕ) (i : Item). rule15-16 f i) 0 (f .items))) ⌝ }
+        (inOrder (λ (k : ℕ) (i : Item). rule15-29-16 f i) 0 (f .items))) ⌝ }
     ensures { λ r. ⌜ ((total : ℕ) (f : File) (x : List ℕ) → total < 18446744073709551616 →
         readFile total (now (head .entry)) ≡ ok f → AllPlaced total (now (head .entry)) f →
         now (table .entry) ≡ rawOf (headWords total f) (placesIn total (now (head .entry))) f ++ x →

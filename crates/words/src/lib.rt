@@ -46,7 +46,7 @@ pub fn place_kind(number: u32) -> PlaceKind
     if is_among(number, &[3, 6, 7, 8, 9, 10, 11]) {
         return PlaceKind::Box;
     }
-    if is_among(number, &[12, 13, 14, 15, 16, 17, 18, 19, 20]) {
+    if is_among(number, &[12, 13, 14, 15, 16, 17, 18, 19, 20, 29]) {
         return PlaceKind::Item;
     }
     if is_among(number, &[21, 22, 23, 24, 25, 26, 28]) {

@@ -48,7 +48,7 @@ pub fn print_box_words(fd: i32, number: u32) {
     }
 }
 
-// 12 to 20: of an item.
+// 12 to 20 and 29: of an item.
 pub fn print_item_words(fd: i32, number: u32) {
     match number {
         12 => say(
@@ -75,6 +75,10 @@ pub fn print_item_words(fd: i32, number: u32) {
         18 => say(fd, b"is made from itself"),
         19 => say(fd, b"is nested more than 16 deep"),
         20 => say(fd, b"has sizes that do not fit together"),
+        29 => say(
+            fd,
+            b"is of type `hvc1` and does not have exactly one `hvcC`, marked essential",
+        ),
         _ => {}
     }
 }

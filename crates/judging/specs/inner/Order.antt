@@ -15,7 +15,7 @@ use Rattle.contents.specs.Iinf.{Item}
 use Rattle.contents.specs.File.{File, readFile}
 use Rattle.rules.specs.Places.{Places, placesIn}
 use Rattle.rules.specs.Derivations.{sceneOf}
-use Rattle.rules.specs.Rules.{inOrder, byDepth, rule13-14, rule15-16, rule17, rule18, rule19, judged}
+use Rattle.rules.specs.Rules.{inOrder, byDepth, rule13-14, rule15-29-16, rule17, rule18, rule19, judged}
 use Rattle.rules.specs.Words.{headWords, wordsOf}
 use Rattle.records.specs.inner.Raw.{rawOf}
 use Rattle.views.specs.inner.View.{TableOf, Judging, AllPlaced, recordWord}
@@ -38,7 +38,7 @@ picturesJudged total head f = inOrder (ruleBy Itself total head f) 0 (f .items) 
     (inOrder (ruleBy Deep total head f) 0 (f .items) >> byDepth (sceneOf total head f) (f .items) 17 0)
 
 unfoldable pub restJudged : ℕ → List ℕ → File → Answer (Unit {0})
-restJudged total head f = inOrder (λ (r : ℕ) (i : Item). rule15-16 f i) 0 (f .items) >>
+restJudged total head f = inOrder (λ (r : ℕ) (i : Item). rule15-29-16 f i) 0 (f .items) >>
     (inOrder (ruleBy Derived total head f) 0 (f .items) >> picturesJudged total head f)
 
 -- idat: where the content of `idat` ends in the head

@@ -2,9 +2,8 @@
 use native.Mathlib.Omega.{arith}
 use mathlib.Core.Path.{refl}
 use borrow.Author.Needs.{needs}
-use Rattle.views.specs.inner.View.{idOf}
 use Rattle.declared.specs.declared.SizesRead.the-variants.{Are, Wrong}
-use Rattle.declared.proofs.ToldLaws.{says}
+use Rattle.sizing.proofs.PropertiesLaws.{said}
 use Rattle.sizing.proofs.FillLaws.{sizes-drawn, sizes-opaque, sizes-past}
 use Rattle.sizing.proofs.FaultLaws.{row-no-image, row-image, row-opaque, row-protected, row-wrong, row-declared, fault-not-none}
 use Rattle.sizing.proofs.fill_row.Statement.{statement}
@@ -54,9 +53,9 @@ returns-3 c =
     let n = c .properties-fault in (
       λ pl f v h g told. row-wrong v (a .row .0) h (t .result) (t .ensures) (x .result) (x .ensures) (c9 .if1 .left) g
           (w .result) (w .ensures) (c6 .if2 .left) (n .result) (n .ensures (a .head .now) pl f v h)
-          (says f (idOf f (a .row .0)) (s .result) Wrong (s .ensures pl f v h told) (c2 .enum-told .given .1)),
+          (said f (a .row .0) (s .result) Wrong (s .ensures pl f v h told) (c2 .enum-told .given .1)),
       (
-        λ pl f v h told z. absurd (fault-not-none _ (n .result) (n .ensures (a .head .now) pl f v h) z),
+        λ pl f v h told z. absurd (fault-not-none _ _ (n .result) (n .ensures (a .head .now) pl f v h) z),
         (λ z. refl, refl),
       ),
     )
@@ -75,11 +74,11 @@ returns-4 c =
     let small = c18 .pre in
     let p = c2 .put-sizes2 .ensures in (
       λ pl f v h g told. row-declared v (a .row .0) h (t .result) (t .ensures) (x .result) (x .ensures) y g (w .result)
-          (w .ensures) (c9 .if2 .left) (says f (idOf f (a .row .0)) (s .result) (Are _ _) (s .ensures pl f v h told)
+          (w .ensures) (c9 .if2 .left) (said f (a .row .0) (s .result) (Are _ _) (s .ensures pl f v h told)
           (c5 .s .given .1) .0),
       (
         λ pl f v h told z. let q =
-            says f (idOf f (a .row .0)) (s .result) (Are _ _) (s .ensures pl f v h told) (c5 .s .given .1) in
+            said f (a .row .0) (s .result) (Are _ _) (s .ensures pl f v h told) (c5 .s .given .1) in
             rw (← sizes-drawn f (a .row .0) (a .depth) _ _
             (row-image v (a .row .0) h (t .result) (t .ensures) (x .result) (x .ensures) y) (q .1) (q .2)) p,
         (λ n. absurd (n refl), sizes-past (a .table .now) _ (a .row .0) _ _ _ (small .1) p),

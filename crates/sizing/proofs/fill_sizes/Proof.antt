@@ -1,4 +1,4 @@
--- `sizing::fill_sizes` meets its contract. The loop's invariant: the rows passed are filled and keep 15 and 16, the
+-- `sizing::fill_sizes` meets its contract. The loop's invariant: the rows passed are filled and keep 15, 29 and 16, the
 -- others are as they were. The measure is what is left of them. Assumes nothing.
 use Prim.Native.Nat.{_-_, _≤_}
 use native.Mathlib.Omega.{arith}

@@ -1,4 +1,4 @@
--- The code's value for 15 and 16 of all items.
+-- The code's value for 15, 29 and 16 of all items.
 use Rattle.boxes.specs.Answer.{Answer, ok, refuse}
 use Rattle.sizing.specs.declared.Filled.{Filled}
 use Rattle.sizing.specs.declared.Filled.the-variants.{All, Refused}

@@ -18,9 +18,9 @@ use Rattle.words.specs.declared.PlaceKind.the-variants.{Nothing, Box, It
 abbrev pub boxNumbers : List ℕ
 boxNumbers = 3 ∷ 6 ∷ 7 ∷ 8 ∷ 9 ∷ 10 ∷ 11 ∷ []
 
--- the place is "item ID"; of 12 "its ID", that of the primary item
+-- the place is "item ID"; of 12 "its ID", that of the primary item; of 29 "the item ID" (document 02)
 abbrev pub itemNumbers : List ℕ
-itemNumbers = 12 ∷ 13 ∷ 14 ∷ 15 ∷ 16 ∷ 17 ∷ 18 ∷ 19 ∷ 20 ∷ []
+itemNumbers = 12 ∷ 13 ∷ 14 ∷ 15 ∷ 16 ∷ 17 ∷ 18 ∷ 19 ∷ 20 ∷ 29 ∷ []
 
 -- the place is "asked ID"; of 26 and 28 "the asked item's ID where one is asked, else 0" (document 02)
 abbrev pub askedNumbers : List ℕ
