@@ -33,7 +33,7 @@
 #define STILL_POINT_WORDS 9
 
 /* Bytes of stack that a call was seen to take at most, rounded up. A trace, and points with it, takes most where an item has
- * 254 turns or crops: 60,848. */
+ * 254 turns or crops: 61,120. */
 #define STILL_STACK_TRACE 64000
 #define STILL_STACK_SOURCES 20000
 #define STILL_STACK_OTHERS 16000
