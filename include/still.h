@@ -33,10 +33,10 @@
 #define STILL_POINT_WORDS 9
 
 /* Bytes of stack that a call was seen to take at most, rounded up. A trace, and points with it, takes most where an item has
- * 254 turns or crops: 61,120. */
+ * 254 turns or crops: 62,208. Of the others sources takes 20,360, and size 17,320. */
 #define STILL_STACK_TRACE 64000
-#define STILL_STACK_SOURCES 20000
-#define STILL_STACK_OTHERS 16000
+#define STILL_STACK_SOURCES 21000
+#define STILL_STACK_OTHERS 18000
 
 /* The most that a file may have; more is refusal 9. An item has at most STILL_MAX_ITEMS sources, so a list of that length is never too short. */
 #define STILL_MAX_ITEMS 256
@@ -44,6 +44,44 @@
 #define STILL_MAX_ASSOCIATIONS 2048
 #define STILL_MAX_TARGETS 2048
 #define STILL_MAX_EXTENTS 512
+
+/* The table of a file. Words 0 to 7: how many items, properties, associations, targets and extents; the primary item's ID; the file's
+ * length, high word and low word. Then from each of these words on, as many records as there are; all words that are not used are 0: */
+#define STILL_ITEMS_AT 16          /* records of STILL_ITEM_WORDS */
+#define STILL_PROPERTIES_AT 4112   /* of 4 words: type, offset in the head, size, 0 */
+#define STILL_ASSOCIATIONS_AT 5136 /* of one: property index from 1, and 32,768 more if it is essential */
+#define STILL_TARGETS_AT 7184      /* of one: an item's ID */
+#define STILL_EXTENTS_AT 9232      /* of 4: offset in the file, high and low; length, high and low */
+
+/* An item's record. The records stand in rising order of their IDs, compared as unsigned numbers, so that an item is found by halving. All
+ * else is in the file's order: properties, associations, targets and extents, and the "first" words count from 0 in that order, 0 where there
+ * are none. An item's place in `iinf`, from 0, is its last word: whoever lists items as the file does, as sources do, goes by it:
+ *
+ *     uint32_t row_of[STILL_MAX_ITEMS], row, place;
+ *     for (row = 0; row < table[0]; row++)
+ *         row_of[table[STILL_ITEMS_AT + STILL_ITEM_WORDS * row + STILL_ITEM_PLACE]] = row;
+ *     for (place = 0; place < table[0]; place++)
+ *         .. the record at table + STILL_ITEMS_AT + STILL_ITEM_WORDS * row_of[place]
+ */
+#define STILL_ITEM_WORDS 16
+enum still_item {
+    STILL_ITEM_ID = 0,
+    STILL_ITEM_TYPE = 1,
+    STILL_ITEM_HIDDEN = 2,
+    STILL_ITEM_FIRST_ASSOCIATION = 3,
+    STILL_ITEM_ASSOCIATIONS = 4,
+    STILL_ITEM_FIRST_TARGET = 5,
+    STILL_ITEM_TARGETS = 6,
+    STILL_ITEM_FIRST_EXTENT = 7,
+    STILL_ITEM_EXTENTS = 8,
+    STILL_ITEM_METHOD = 9,
+    STILL_ITEM_WIDTH = 10,         /* reconstructed; all five are 0 for an item that is no picture */
+    STILL_ITEM_HEIGHT = 11,
+    STILL_ITEM_OUTPUT_WIDTH = 12,  /* after its turns and crops */
+    STILL_ITEM_OUTPUT_HEIGHT = 13,
+    STILL_ITEM_DEPTH = 14,
+    STILL_ITEM_PLACE = 15          /* in `iinf`, from 0 */
+};
 
 /* out[0]. The place, out[1], is 0 for 1, 2, 4, 5 and 27; for 3 and 6 to 11 where the box begins in the head; for 12 to 20 and 29 the
  * item's ID; for 21 to 26 and 28 the ID that was asked for. */
@@ -112,7 +150,7 @@ void still_trace(const uint8_t *head, size_t head_len, uint64_t total, uint32_t 
 void still_points(const uint8_t *head, size_t head_len, uint64_t total, uint32_t *table, size_t table_len, uint32_t item, uint32_t *points,
                   size_t points_len, uint64_t out[STILL_OUT]);
 
-/* The IDs of all coded items that an item needs, each once, in table order; a coded item lists itself. out[2] how many were written to the
+/* The IDs of all coded items that an item needs, each once, in the order of `iinf`; a coded item lists itself. out[2] how many were written to the
  * list's first entries; the others stay as they were, and a refusal writes none. */
 void still_sources(const uint8_t *head, size_t head_len, uint64_t total, uint32_t *table, size_t table_len, uint32_t item, uint32_t *list,
                    size_t list_len, uint64_t out[STILL_OUT]);

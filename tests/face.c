@@ -1,4 +1,4 @@
-/* face FILE: what a caller from C may lend, on a file whose primary item 2 needs item 1: null pointers with length 0, a table that is too short, and words, entries and records behind what is written. */
+/* face FILE: what a caller from C may lend, on a file whose primary item 2 needs item 1: null pointers with length 0, a table that is too short, and words, entries and records behind what is written; and in which order the item records stand. */
 #include <stdio.h>
 #include <string.h>
 
@@ -143,6 +143,47 @@ static void points_answered(size_t n)
     told("no points of no item", STILL_NO_SUCH_ITEM, 3, 0, 0);
 }
 
+/* Whether the records have these IDs and these places in `iinf`, and the way that still.h tells leads from each place to its record. */
+static void ordered(const char *what, const uint32_t *ids, const uint32_t *places, uint32_t count)
+{
+    uint32_t row_of[STILL_MAX_ITEMS] = {0}, row;
+    const uint32_t *records = table + STILL_ITEMS_AT;
+    for (row = 0; row < table[0]; row++)
+        row_of[records[STILL_ITEM_WORDS * row + STILL_ITEM_PLACE] % STILL_MAX_ITEMS] = row;
+    if (table[0] != count)
+        wrong = 1, printf("wrong: %s, how many\n", what);
+    for (row = 0; row < count; row++)
+        if (row_of[places[row]] != row || records[STILL_ITEM_WORDS * row + STILL_ITEM_ID] != ids[row])
+            wrong = 1, printf("wrong: %s, row %u\n", what, (unsigned)row);
+}
+
+/* The same file with its two entries of `iinf` exchanged: item 2 comes first there, item 1 in the table. */
+static void items_exchanged(size_t n)
+{
+    static const uint32_t ids[] = {1, 2}, rising[] = {0, 1}, falling[] = {1, 0};
+    uint8_t entry[21], *first = head;
+    still_verdict(head, n, n, table, TABLE, out);
+    ordered("IDs that rise", ids, rising, 2);
+    while (memcmp(first + 4, "infe", 4) != 0)
+        first++;
+    memcpy(entry, first, sizeof entry);
+    memcpy(first, first + sizeof entry, sizeof entry);
+    memcpy(first + sizeof entry, entry, sizeof entry);
+    still_verdict(head, n, n, table, TABLE, out);
+    told("entries exchanged", 0, 0, 2, 2);
+    ordered("IDs that fall", ids, falling, 2);
+    still_size(head, n, n, table, TABLE, 3, out);
+    told("no item", STILL_NO_SUCH_ITEM, 3, 0, 0);
+    ordered("a refusal with the file's table", ids, falling, 2);
+    still_sources(head, n, n, table, TABLE, 2, list, 4, out);
+    told("sources of entries exchanged", 0, 0, 1, 0);
+    kept("their source", list, 1, 1);
+    /* Both are protected: the first fault is that of the first entry. */
+    first[15] = first[sizeof entry + 15] = 1;
+    still_verdict(head, n, n, table, TABLE, out);
+    told("the first fault", STILL_PROTECTED_OR_UNKNOWN, 2, 0, 0);
+}
+
 int main(int argc, char **argv)
 {
     FILE *file = argc == 2 ? fopen(argv[1], "rb") : NULL;
@@ -195,5 +236,6 @@ int main(int argc, char **argv)
     points_answered(n);
     points_refused(n);
     transforms();
+    items_exchanged(n);
     return wrong;
 }

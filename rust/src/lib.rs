@@ -1,15 +1,17 @@
 //! The still reader's eight questions. Every answer is proved for all bytes, numbers and lengths; this package only turns the archive's eight numbers into Rust's types.
 //!
 //! A question is asked of a [`Still`], the file's first bytes and its whole length, and is lent a [`Table`]; only [`transforms`] reads no file.
-//! The archive is for x86-64 Linux and is written by `rt staticlib still_c`; without it only [`Fault`] is here.
+//! The archive is for x86-64 Linux and is written by `rt staticlib still_c`; without it only [`Fault`] and what reads a [`Table`] are here.
 
 mod fault;
 #[cfg(still_linked)]
 mod questions;
+mod table;
 
 pub use fault::{Fault, Refusal};
 #[cfg(still_linked)]
-pub use questions::{transforms, Answer, End, ItemId, Point, Size, Still, Table, Trace, Transform, Verdict};
+pub use questions::{transforms, Answer, End, Point, Still, Trace, Transform, Verdict};
+pub use table::{Item, ItemId, Size, Table};
 
 /// The most bytes of a file that a question is lent.
 pub const HEAD_MAX: usize = 65_536;

@@ -1,5 +1,5 @@
 //! The questions over the archive.
-use crate::{Fault, Refusal, HEAD_MAX, TABLE_WORDS};
+use crate::{Fault, ItemId, Refusal, Size, Table, HEAD_MAX, TABLE_WORDS};
 
 const OUT: usize = 8;
 
@@ -19,7 +19,7 @@ macro_rules! ask {
     ($question:ident, $still:ident, $table:ident $(, $own:expr)*) => {{
         let mut out = [0; OUT];
         // SAFETY: every pointer comes from a live slice and goes with that slice's length, Rust's borrows keep them apart, and `out` has its eight numbers.
-        unsafe { $question($still.head.as_ptr(), $still.head.len(), $still.total, $table.0.as_mut_ptr(), TABLE_WORDS, $($own,)* &mut out) };
+        unsafe { $question($still.head.as_ptr(), $still.head.len(), $still.total, $table.lent().as_mut_ptr(), TABLE_WORDS, $($own,)* &mut out) };
         told(out)
     }};
 }
@@ -39,44 +39,10 @@ fn trace([end, item, x, y, passed]: [u32; 5]) -> Trace {
     Trace { end: if end == 1 { End::Pixel } else { End::Fill }, item: ItemId(item), x, y, passed }
 }
 
-/// The item_ID of an item; never its row.
-#[derive(Clone, Copy, Debug, PartialEq, Eq)]
-pub struct ItemId(pub u32);
-
-/// The words that a question fills. What stands in them before does not matter, so one table serves any number of questions.
-pub struct Table(Box<[u32; TABLE_WORDS]>);
-
-impl Table {
-    pub fn new() -> Table {
-        Table(Box::new([0; TABLE_WORDS]))
-    }
-
-    /// The file's words after an answer or a refusal from 21 on; all 0 after another refusal.
-    pub fn words(&self) -> &[u32; TABLE_WORDS] {
-        &self.0
-    }
-}
-
-impl Default for Table {
-    fn default() -> Table {
-        Table::new()
-    }
-}
-
 #[derive(Clone, Copy, Debug, PartialEq, Eq)]
 pub struct Verdict {
     pub items: u32,
     pub primary: ItemId,
-}
-
-/// The reconstructed size of a picture, the size of its output after its turns and crops, and its depth.
-#[derive(Clone, Copy, Debug, PartialEq, Eq)]
-pub struct Size {
-    pub wide: u32,
-    pub high: u32,
-    pub output_wide: u32,
-    pub output_high: u32,
-    pub depth: u32,
 }
 
 /// A pixel of a coded item, or the fill of an overlay.
@@ -195,7 +161,7 @@ impl<'a> Still<'a> {
         Ok(unsafe { &*(points as *const [Point] as *const [Answer]) })
     }
 
-    /// The IDs of all coded items that an item needs, each once, in table order: the front of the list that is lent. A refusal writes nothing to it.
+    /// The IDs of all coded items that an item needs, each once, in the order of `iinf`: the front of the list that is lent. A refusal writes nothing to it.
     pub fn sources<'l>(self, table: &mut Table, item: ItemId, list: &'l mut [u32]) -> Result<&'l [u32], Refusal> {
         let [count, ..] = ask!(still_sources, self, table, item.0, list.as_mut_ptr(), list.len())?;
         Ok(&list[..count as usize])

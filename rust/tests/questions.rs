@@ -56,6 +56,26 @@ fn no_points_and_too_many() {
 }
 
 #[test]
+fn items_are_listed_as_in_iinf_and_found_by_id() {
+    // The two entries of `iinf` exchanged: item 2 is listed first.
+    let (mut file, mut table) = (FILE.to_vec(), Table::new());
+    file[123..165].rotate_left(21);
+    let still = Still::of(&file);
+    assert_eq!(still.verdict(&mut table), Ok(Verdict { items: 2, primary: ItemId(2) }));
+    let listed: Vec<_> = table.items().map(|item| (item.id.0, item.place, item.kind)).collect();
+    assert_eq!(listed, [(2, 0, *b"iden"), (1, 1, *b"jpeg")]);
+    assert_eq!(table.items_by_id().map(|item| item.id.0).collect::<Vec<_>>(), [1, 2]);
+    for id in [1, 2] {
+        assert_eq!(table.item(ItemId(id)).unwrap().size, still.size(&mut table, ItemId(id)).ok());
+    }
+    assert_eq!(table.item(ItemId(3)), None);
+    // Both items are protected: the first fault is that of the first entry.
+    (file[138], file[159]) = (1, 1);
+    assert_eq!(Still::of(&file).verdict(&mut table), refused(Fault::ProtectedOrUnknown, 2));
+    assert_eq!(table.items().len(), 0);
+}
+
+#[test]
 fn a_property_is_a_part_of_the_callers_bytes() {
     let part = Still::of(FILE).property(&mut Table::new(), ItemId(1), 1).unwrap();
     assert_eq!(part.as_ptr(), FILE[181..].as_ptr());

@@ -73,6 +73,8 @@ static struct call asked;
 static int running = -1; /* which side, for the report of a crash */
 static const char *dump_path;
 static unsigned long calls, differences, files, by_number[64];
+/* Calls that left records, and of those whose IDs do not rise in `iinf` some kinds; calls refused by a repeated ID. */
+static struct { unsigned long records, unsorted, falling, full, both_ends, repeated; } ids;
 
 /* ---- Memory ---- */
 
@@ -426,6 +428,24 @@ static void lend_list(struct dice *d, const uint8_t *fill)
     }
 }
 
+/* From Q-6 on a record has its place in `iinf` in its last word. */
+static void note_ids(const uint32_t *table, const uint64_t *out)
+{
+    uint32_t count = table[0], rising = 1, falling = 1;
+    ids.repeated += out[0] == 10 && out[1] + 8 <= still.length && memcmp(still.head + out[1] + 4, "infe", 4) == 0;
+    if (count == 0)
+        return;
+    for (uint32_t k = 0; k < count; k++) {
+        rising &= table[16 + 16 * k + 15] == k;
+        falling &= table[16 + 16 * k + 15] == count - 1 - k;
+    }
+    ids.records++;
+    ids.unsorted += !rising;
+    ids.falling += !rising && falling;
+    ids.full += !rising && count == 256;
+    ids.both_ends += !rising && table[16] == 0 && table[16 * count] == 0xffffffffu;
+}
+
 static uint64_t ask(struct dice *d, struct call call)
 {
     static const size_t lengths[] = {WORDS, WORDS, WORDS + 1, WORDS + 20, WORDS, WORDS + 1, WORDS + 20, 0, 1, WORDS - 1};
@@ -439,6 +459,8 @@ static uint64_t ask(struct dice *d, struct call call)
     calls++;
     const char *what = first_difference(), *rule = broken_rule(fill);
     by_number[out_of(1)[0] & 63]++;
+    if (LEVEL >= 6 && asked.question != TRANSFORMS && asked.table_len >= WORDS)
+        note_ids(table_of(1), out_of(1));
     if (what != NULL || rule != NULL) {
         if (differences++ < 5)
             report(what != NULL ? what : rule);
@@ -641,6 +663,10 @@ static void print_counts(double seconds)
     for (unsigned k = 0; k < sizeof number_since; k++)
         if (is_known(k))
             printf(" %u:%lu", k, by_number[k]);
+    if (LEVEL >= 6)
+        printf("\nrecords after %lu calls, %lu of them with IDs that do not rise in iinf: %lu fall throughout, %lu are 256, "
+               "%lu reach from 0 to 2^32 - 1; %lu calls refused by a repeated ID",
+               ids.records, ids.unsorted, ids.falling, ids.full, ids.both_ends, ids.repeated);
     printf("\n%lu files, %lu calls, %lu differences, %.0f seconds\n", files, calls, differences, seconds);
 }
 

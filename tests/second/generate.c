@@ -676,7 +676,8 @@ static int id_taken(const struct plan *plan, uint32_t before, uint32_t id)
 
 static void give_ids(struct dice *d, struct plan *plan)
 {
-    uint32_t way = below(d, 6), first = below(d, 3), step = between(d, 1, 3);
+    uint32_t way = below(d, 9), first = below(d, 3), step = between(d, 1, 3);
+    uint32_t last = chance(d, 50) ? 0xffffffffu : 0x80000000u + 100; /* of those that fall from there */
     for (uint32_t k = 0; k < plan->items; k++)
         plan->order[k] = k;
     if (chance(d, 60))
@@ -690,6 +691,9 @@ static void give_ids(struct dice *d, struct plan *plan)
             case 2: id = 60000 - step * k; break;
             case 3: id = below(d, 2) ? 65535 - below(d, 600) : below(d, 600); break;
             case 4: id = chance(d, 50) ? 0xffffffffu - below(d, chance(d, 20) ? 2 : 600) : 65536 * below(d, 1000); break;
+            case 5: id = last - step * k; break;
+            case 6: id = k & 1 ? 0xffffffffu - k / 2 : k / 2; break; /* from both ends by turns */
+            case 7: id = first + below(d, plan->items + 5); break; /* side by side, in no order */
             default: id = first + step * k; break;
             }
         } while (id_taken(plan, k, id));
@@ -745,6 +749,13 @@ static void fill_associations(struct plan *plan)
     }
 }
 
+/* Up to the limit of 256. */
+static void fill_items(struct plan *plan)
+{
+    while (plan->items < 256)
+        new_item(plan, OPAQUE, 0);
+}
+
 static void make_plan(struct dice *d, struct plan *plan, uint32_t deepest, int loose)
 {
     uint32_t size = below(d, 100), wanted = size < 70 ? between(d, 1, 8) : size < 98 ? between(d, 8, 40) : 256;
@@ -784,6 +795,8 @@ static void make_plan(struct dice *d, struct plan *plan, uint32_t deepest, int l
         shuffle_properties(d, plan);
     if (chance(d, 2))
         fill_associations(plan);
+    if (chance(d, 2))
+        fill_items(plan);
     fill_idat(d, plan);
     if (plan->companion_total < plan->blob_length[2])
         plan->companion_total = plan->blob_length[2] + below(d, 40);
@@ -1008,6 +1021,13 @@ static void spoil_links(struct dice *d, struct plan *plan)
     }
 }
 
+/* An item gets the ID of another: the first and the last of iinf, or any two. */
+static void spoil_id(struct dice *d, struct plan *plan)
+{
+    uint32_t one = chance(d, 50) ? 0 : below(d, plan->items), other = chance(d, 50) ? plan->items - 1 : below(d, plan->items);
+    plan->item[plan->order[other]].id = plan->item[plan->order[one]].id;
+}
+
 /* Entries that are not there, or not for that method, or mean another file than was planned. */
 static void spoil_references(struct dice *d, struct plan *plan)
 {
@@ -1023,6 +1043,10 @@ static void spoil_references(struct dice *d, struct plan *plan)
 
 static void spoil(struct dice *d, struct plan *plan)
 {
+    if (chance(d, 4)) {
+        spoil_id(d, plan);
+        return;
+    }
     switch (below(d, LEVEL >= 10 ? 20 : LEVEL >= 7 ? 18 : LEVEL >= 5 ? 16 : 15)) {
     case 18:
     case 19: spoil_references(d, plan); break;

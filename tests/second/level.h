@@ -4,7 +4,7 @@
 #define LEVEL_H
 
 #ifndef LEVEL
-#define LEVEL 5
+#define LEVEL 6
 #endif
 
 #endif

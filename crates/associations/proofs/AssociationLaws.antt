@@ -20,7 +20,7 @@ use Rattle.contents.specs.Ipma.{Association, markOf, association-form}
 use Rattle.records.proofs.SetsLaws.{sets-append}
 use Rattle.fields.proofs.TestLaws.{and-false, and-none}
 use Rattle.associations.specs.inner.Told.{KeptIds}
-use Rattle.associations.specs.inner.Steps.{wordsOf, AssociatedHere}
+use Rattle.associations.specs.inner.Steps.{associationWords, AssociatedHere}
 use Rattle.associations.proofs.KeepLaws.{sets-high}
 
 -- a word of w bytes and its mark
@@ -101,7 +101,7 @@ module _ (s : List ℕ) (from w k place most used : ℕ) (t₀ : List ℕ) where
     pub count : length list ≡ j
     pub few : j ≤ k
     pub same : answer ≡ reads (many (association-form w most) (k - j) list) place (drop at s) (λ v r. got v r)
-    pub stored : t ≡ sets t₀ (5136 + used) (wordsOf list)
+    pub stored : t ≡ sets t₀ (5136 + used) (associationWords list)
 
   pub list-begin : from ≤ length s → ListSo t₀ from 0
   list-begin h =
@@ -118,12 +118,12 @@ module _ (s : List ℕ) (from w k place most used : ℕ) (t₀ : List ℕ) where
 
   module _ (t : List ℕ) (at j : ℕ) (so : ListSo t at j) where
     pub list-length : length t ≡ length t₀
-    list-length = ap length (so .stored) ∙ length-sets t₀ (5136 + used) (wordsOf (so .list))
+    list-length = ap length (so .stored) ∙ length-sets t₀ (5136 + used) (associationWords (so .list))
 
     pub list-kept : used + k ≤ 2048 → KeptIds t₀ t
     list-kept h =
         subst (KeptIds t₀) (sym (so .stored))
-        (sets-high t₀ (wordsOf (so .list)) (5136 + used) (omega arith) (rw length-map (omega (arith, so .count, so .few))))
+        (sets-high t₀ (associationWords (so .list)) (5136 + used) (omega arith) (rw length-map (omega (arith, so .count, so .few))))
 
     pub list-done : k ≤ j → AssociatedHere answer s k used t₀ t at
     list-done h =
@@ -177,11 +177,11 @@ module _ (s : List ℕ) (from w k place most used : ℕ) (t₀ : List ℕ) where
             }
           where
             stored-more : (x : Association) (v : ℕ) → v ≡ x .index + pick (x .essential) 32768 0 →
-                set t (5136 + used + j) v ≡ sets t₀ (5136 + used) (wordsOf (so .list ++ (x ∷ [])))
+                set t (5136 + used + j) v ≡ sets t₀ (5136 + used) (associationWords (so .list ++ (x ∷ [])))
             stored-more x v e =
-                let n : 5136 + used + j ≡ 5136 + used + length (wordsOf (so .list)) = rw length-map (omega (arith, so .count)) in
+                let n : 5136 + used + j ≡ 5136 + used + length (associationWords (so .list)) = rw length-map (omega (arith, so .count)) in
                 ap (λ (l : List ℕ). set l (5136 + used + j) v) (so .stored)
-                ∙ ap (λ (i : ℕ). set (sets t₀ (5136 + used) (wordsOf (so .list))) i v) n
-                ∙ sym (sets-append (wordsOf (so .list)) (v ∷ []) t₀ (5136 + used))
-                ∙ ap (λ (l : List ℕ). sets t₀ (5136 + used) (wordsOf (so .list) ++ l)) (ap (λ (i : ℕ). i ∷ []) e)
+                ∙ ap (λ (i : ℕ). set (sets t₀ (5136 + used) (associationWords (so .list))) i v) n
+                ∙ sym (sets-append (associationWords (so .list)) (v ∷ []) t₀ (5136 + used))
+                ∙ ap (λ (l : List ℕ). sets t₀ (5136 + used) (associationWords (so .list) ++ l)) (ap (λ (i : ℕ). i ∷ []) e)
                 ∙ ap (sets t₀ (5136 + used)) (sym (map-append _ (so .list) (x ∷ [])))

@@ -50,7 +50,7 @@ use Rattle.records.proofs.SaidLaws.{namedIn}
 use Rattle.records.proofs.RawLaws.{raw-id, raw-named}
 use Rattle.contents.proofs.SumLaws.{associations-more}
 use Rattle.associations.specs.inner.Told.{KeptIds, toldNames, NamesLeft}
-use Rattle.associations.specs.inner.Steps.{wordsOf, spanWords, Above, NamedHere, NamedPutIs}
+use Rattle.associations.specs.inner.Steps.{associationWords, spanWords, Above, NamedHere, NamedPutIs}
 use Rattle.associations.specs.declared.NamedPut.{NamedPut}
 use Rattle.associations.specs.declared.NamedPut.the-variants as named
 use Rattle.associations.specs.declared.NamesRead.{NamesRead}
@@ -75,7 +75,7 @@ module _ (pl : Places) (f : File) (x : List ℕ) (n : ℕ) (ready : Ready f n) (
     (is : t ≡ rawOf [] pl (withNames f entries) ++ x) where
   raw-more : (used id row : ℕ) (list : List Association) → associationsIn entries ≡ used → used + length list ≤ 2048 →
       member id (namedIn entries) ≡ false → row < n → idAt t row ≡ id
-      → sets (sets t (5136 + used) (wordsOf list)) (16 + 16 * row + 3) (spanWords used (length list)) ≡ rawOf [] pl
+      → sets (sets t (5136 + used) (associationWords list)) (16 + 16 * row + 3) (spanWords used (length list)) ≡ rawOf [] pl
       (withNames f (entries ++ (record { id = id; list = list } ∷ []))) ++ x
   raw-more used id row list total fits new h e =
       let b = ready .bounded in
@@ -251,10 +251,10 @@ module _ (s : List ℕ) (from count most v w place n : ℕ) (t₀ : List ℕ) wh
 
         put-kept : Here → KeptIds t u
         put-kept b =
-            let m = sets t (5136 + used) (wordsOf (b .list)) in
+            let m = sets t (5136 + used) (associationWords (b .list)) in
             subst (KeptIds t) (sym (b .stored))
             (kept-then t m _
-            (sets-high t (wordsOf (b .list)) (5136 + used) (omega arith) (rw length-map (omega (arith, b .fits, b .count-is))))
+            (sets-high t (associationWords (b .list)) (5136 + used) (omega arith) (rw length-map (omega (arith, b .fits, b .count-is))))
             (sets-row m (row .0) _ _ (omega (arith, b .found .0))))
 
         pub names-more : NamesSo u end (used + k) (id + 1) (i + 1)
@@ -274,7 +274,7 @@ module _ (s : List ℕ) (from count most v w place n : ℕ) (t₀ : List ℕ) wh
               kept = kept-then t₀ t u (so .kept) (put-kept b);
               told = λ pl f z ready none is.
                   b .stored
-                  ∙ ap (λ (j : ℕ). sets (sets t (5136 + used) (wordsOf (b .list))) (16 + 16 * row .0 + 3) (spanWords used j)) (sym c)
+                  ∙ ap (λ (j : ℕ). sets (sets t (5136 + used) (associationWords (b .list))) (16 + 16 * row .0 + 3) (spanWords used j)) (sym c)
                   ∙ raw-more pl f z n ready (so .entries) t (so .told pl f z ready none is) used id (row .0) (b .list)
                   (so .total) (omega (arith, b .fits)) (so .fresh id (b .rising)) (b .found .0) (b .found .1);
             }

@@ -173,7 +173,7 @@ pub enum NamedPut {
     Refused(Refusal),
 }
 
-// One entry, into the table. The IDs before it are below `above`. Its row is looked for at the one hoped for, then by slots.
+// One entry, into the table. The IDs before it are below `above`. Its row is looked for at the one hoped for, then by keys.
 fn put_named(
     s: &[u8],
     at: usize,
@@ -183,7 +183,8 @@ fn put_named(
     n: usize,
     above: u64,
     hope: ItemRow,
-    slots: &[u32],
+    keys: &[u64; 512],
+    turn: usize,
     used: usize,
 ) -> NamedPut
     requires { ⌜ (at ≤ length (now s)) × ((f .word ≡ 1) ⊎ (f .word ≡ 2)) × (n ≤ 256) × (used ≤ 2048) × (11280 ≤ length (now table)) ⌝ }
@@ -200,7 +201,7 @@ fn put_named(
     if (id as u64) < above {
         return NamedPut::Refused(Refusal { number: 10, place });
     }
-    let found = records::row_of(&*table, n, ItemId(id), hope, slots);
+    let found = records::row_in_turn(&*table, n, ItemId(id), hope, keys, turn);
     match found {
         FoundRow::Nothing => NamedPut::Refused(Refusal { number: 11, place }),
         FoundRow::At(row) => {
@@ -227,9 +228,9 @@ fn put_names(
     place: u64,
     table: &mut [u32],
     n: usize,
-    slots: &[u32],
+    keys: &[u64; 512],
 ) -> NamesRead
-    requires { ⌜ (from ≤ length (now s)) × ((f .word ≡ 1) ⊎ (f .word ≡ 2)) × (n ≤ 256) × (11280 ≤ length (now table)) ⌝ }
+    requires { ⌜ (from ≤ length (now s)) × ((f .word ≡ 1) ⊎ (f .word ≡ 2)) × (n ≤ 256) × (11280 ≤ length (now table)) × (count < 4294967296) ⌝ }
     ensures { λ r. ⌜ r ≡ toldNames (whole (many
         (ipma-entry-form (idsIn (now (table .entry)) n) (f .most) (f .version) (f .word)) count []) place (drop from
         (now (s .entry)))) ⌝ }
@@ -240,9 +241,22 @@ fn put_names(
     let mut used: usize = 0;
     let mut above: u64 = 0;
     let mut hope: usize = 0;
+    let first = records::first_key(keys);
     let mut i: usize = 0;
     while i < count {
-        let t = put_named(s, at, f, place, table, n, above, ItemRow(hope), slots, used);
+        let t = put_named(
+            s,
+            at,
+            f,
+            place,
+            table,
+            n,
+            above,
+            ItemRow(hope),
+            keys,
+            first + i,
+            used,
+        );
         match t {
             NamedPut::Refused(r) => {
                 return NamesRead::Refused(r);
@@ -270,7 +284,7 @@ pub fn read_names(
     place: u64,
     table: &mut [u32],
     n: usize,
-    slots: &[u32],
+    keys: &[u64; 512],
     most: u32,
 ) -> NamesRead
     requires { ⌜ (n ≤ 256) × (11280 ≤ length (now table)) ⌝ }
@@ -294,14 +308,14 @@ pub fn read_names(
                     word: 2,
                     most,
                 };
-                return put_names(s, 8, count as usize, f, place, table, n, slots);
+                return put_names(s, 8, count as usize, f, place, table, n, keys);
             }
             let f = Written {
                 version,
                 word: 1,
                 most,
             };
-            put_names(s, 8, count as usize, f, place, table, n, slots)
+            put_names(s, 8, count as usize, f, place, table, n, keys)
         }
     }
 }

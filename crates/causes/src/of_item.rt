@@ -19,10 +19,10 @@ fn new_table() -> [u32; 11280]
     [0; 11280]
 }
 
-fn new_rows() -> [u32; 2048]
-    ensures { λ r. ⌜ 2048 ≡ length r ⌝ }
+fn new_rows() -> [u32; 2304]
+    ensures { λ r. ⌜ 2304 ≡ length r ⌝ }
 {
-    [0; 2048]
+    [0; 2304]
 }
 
 fn print_type(fd: i32, table: &[u32], row: ItemRow) {

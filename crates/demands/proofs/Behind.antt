@@ -1,5 +1,5 @@
 -- Demand 1: a table's length, the words behind it, and the two numbers that carry a refusal. Assumes nothing.
-use Prim.Native.Nat.{ℕ, _<_}
+use Prim.Native.Nat.{ℕ}
 use native.Mathlib.Omega.{arith}
 use mathlib.Core.Path.{_≡_, refl, sym, ap, subst, _∙_}
 use mathlib.Core.List.{List, [], _∷_, _++_}
@@ -12,11 +12,11 @@ use Rattle.fields.proofs.TestLaws.{untrue}
 use Rattle.boxes.specs.Answer.{Answer, ok, refuse}
 use Rattle.contents.specs.File.{File}
 use Rattle.rules.specs.Words.{wordsOf}
-use Rattle.rules.specs.Opening.{accepted, leftBy, after}
-use Rattle.rules.proofs.RuleLaws.{judged-each, accepted-both}
+use Rattle.rules.specs.Opening.{accepted, leftBy, afterBy, after}
+use Rattle.rules.proofs.RuleLaws.{accepted-both}
 use Rattle.questions.specs.Questions as Q
 use Rattle.records.proofs.BoundLaws.{read-bounds}
-use Rattle.views.proofs.FillLaws.{filled-all, filled-length}
+use Rattle.views.proofs.LayoutLaws.{words-length}
 use Rattle.still.specs.Told.{toldFault}
 use Rattle.still.specs.Given.{PropertyGiven}
 use Rattle.faults.specs.Good.{GoodFile}
@@ -24,12 +24,9 @@ use Rattle.faults.proofs.GoodLaws.{good-accepted}
 use Rattle.demands.specs.Numbers.{Among, propertyNumbers}
 use Rattle.demands.proofs.Numbers.{property-number}
 
-module _ (head : List ℕ) (total : ℕ) (few : total < 18446744073709551616) where
-  accepted-long : (f : File) → accepted total head ≡ ok f → length (wordsOf total head f) ≡ 11280
-  accepted-long f e =
-      let a = accepted-both total head f e in
-      ap length (sym (filled-all total head f few (a .0) (judged-each total head f (a .1) .by-13-14))) ∙
-      filled-length total head f (read-bounds total head f (a .0) .0) (length (f .items))
+module _ (head : List ℕ) (total : ℕ) where
+  pub accepted-long : (f : File) → accepted total head ≡ ok f → length (wordsOf total head f) ≡ 11280
+  accepted-long f e = words-length total head f (read-bounds total head f (accepted-both total head f e .0) .0)
 
   -- the words of a file that keeps the rules are 11,280
   pub words-long : (f : File) → GoodFile total head f → length (wordsOf total head f) ≡ 11280
@@ -37,10 +34,10 @@ module _ (head : List ℕ) (total : ℕ) (few : total < 18446744073709551616) wh
 
   -- "Words past 11,280 are never written.", by any call, answered or refused
   pub words-behind : (table left : List ℕ) → left ≡ after total head table → drop 11280 left ≡ drop 11280 table
-  unfolding after leftBy pick
+  unfolding afterBy leftBy pick
   words-behind table left is = by (leb 11280 (length table)) (accepted total head) refl is
     where
-      by : (t : Bool) (m : Answer File) → accepted total head ≡ m → left ≡ pick t (leftBy total head table m) table →
+      by : (t : Bool) (m : Answer File) → accepted total head ≡ m → left ≡ pick t (leftBy wordsOf total head table m) table →
           drop 11280 left ≡ drop 11280 table
       by false m a l = ap (drop 11280) l
       by true (ok f) a l = ap (drop 11280) l ∙ drop-at (wordsOf total head f) (drop 11280 table) 11280 (accepted-long f a)

@@ -3,10 +3,10 @@
 -- themselves: none of them has a `requires`. Assumes nothing.
 --   size-refused, ..   a refused call: why, its number and place, and what it leaves
 --   size-same, ..      two calls on one file with any two tables of sufficient length
-use Prim.Native.Nat.{ℕ, _≤_, _<_}
+use Prim.Native.Nat.{ℕ, _≤_}
 use native.Mathlib.Omega.{arith}
 use mathlib.Core.Path.{_≡_, refl, sym, ap, _∙_}
-use mathlib.Core.List.{List, [], _∷_, _++_, append-nil}
+use mathlib.Core.List.{List, [], _∷_, _++_}
 use mathlib.Core.Bool.{Bool, true, false}
 use mathlib.Core.Logic.{_⊎_, inl, inr}
 use lib.ListN.{length, take, drop, replicate, length-replicate}
@@ -23,10 +23,12 @@ use Rattle.pictures.specs.declared.Point.{Point}
 use Rattle.rules.specs.Derivations.{sceneOf}
 use Rattle.rules.specs.Places.{placesIn}
 use Rattle.rules.specs.Words.{wordsOf}
-use Rattle.rules.specs.Opening.{accepted, opened, leftBy, after}
+use Rattle.rules.proofs.RuleLaws.{accepted-both}
+use Rattle.rules.specs.Opening.{accepted, opened, leftBy, afterBy, after}
 use Rattle.questions.specs.Questions.{verdictIn, sizeIn, traceIn, sourcesIn, propertyIn, listAfter}
 use Rattle.questions.specs.Questions as Q
-use Rattle.views.proofs.ViewLaws.{words-view}
+use Rattle.records.proofs.BoundLaws.{read-bounds}
+use Rattle.views.proofs.LayoutLaws.{words-length}
 use Rattle.asked.specs.declared.FileVerdict.{FileVerdict}
 use Rattle.asked.specs.declared.FileVerdict.the-variants as verdict
 use Rattle.asked.specs.declared.Sized.{Sized}
@@ -79,11 +81,11 @@ module _ (head : List ℕ) (total : ℕ) where
     pub refused-call : {A : Type 0} (k : File → Answer A) (Unmet : File → ℕ → ℕ → Type 0) →
         ((f : File) (n p : ℕ) → k f ≡ refuse n p → Unmet f n p) → (n p : ℕ) →
         (opened (length table) total head >>= k) ≡ refuse n p → Call head total table Unmet n p left
-    unfolding opened after leftBy check _>>=_ _>>_ pick
+    unfolding opened afterBy leftBy check _>>=_ _>>_ pick
     refused-call k Unmet h n p e = by (leb 11280 (length table)) refl (accepted total head) refl is e
       where
         by : (t : Bool) → leb 11280 (length table) ≡ t → (m : Answer File) → accepted total head ≡ m →
-            left ≡ pick t (leftBy total head table m) table → ((check 1 0 t >> m) >>= k) ≡ refuse n p →
+            left ≡ pick t (leftBy wordsOf total head table m) table → ((check 1 0 t >> m) >>= k) ≡ refuse n p →
             Call head total table Unmet n p left
         by false q m a l e = short (leb-false _ _ q) (cc) (cc) l
         by true q (refuse i j) a l e = let x : i ≡ n = cc in let y : j ≡ p = cc in
@@ -167,19 +169,20 @@ module _ (head : List ℕ) (total : ℕ) where
 
   -- Nothing left in the table by an earlier file can be seen: with tables t and u of sufficient length the answers are
   -- the same, and so are the first 11,280 words.
-  module _ (few : total < 18446744073709551616) (t u : List ℕ) (enough : 11280 ≤ length t) (enough-too : 11280 ≤ length u) where
+  module _ (t u : List ℕ) (enough : 11280 ≤ length t) (enough-too : 11280 ≤ length u) where
     opened-same : opened (length t) total head ≡ opened (length u) total head
     unfolding opened
     opened-same = rw (le-leb 11280 (length t) enough, le-leb 11280 (length u) enough-too)
 
-    after-is : (v : List ℕ) → 11280 ≤ length v → after total head v ≡ leftBy total head v (accepted total head)
-    unfolding after
+    after-is : (v : List ℕ) → 11280 ≤ length v → after total head v ≡ leftBy wordsOf total head v (accepted total head)
+    unfolding afterBy
     after-is v h = pick-yes _ _ (le-leb 11280 (length v) h)
 
-    front : (m : Answer File) → accepted total head ≡ m → take 11280 (leftBy total head t m) ≡ take 11280 (leftBy total head u m)
+    front : (m : Answer File) → accepted total head ≡ m → take 11280 (leftBy wordsOf total head t m) ≡ take 11280 (leftBy wordsOf total head u m)
     unfolding leftBy
     front (ok f) e =
-        let w : 11280 ≤ length (wordsOf total head f) = rw append-nil at (words-view total head f [] few e .enough) in
+        let w : 11280 ≤ length (wordsOf total head f) = omega
+        (arith, words-length total head f (read-bounds total head f (accepted-both total head f e .0) .0)) in
         take-append-le 11280 (wordsOf total head f) _ w ∙ sym (take-append-le 11280 (wordsOf total head f) _ w)
     front (refuse n p) e =
         let w : 11280 ≤ length (replicate {A = ℕ} 11280 0) = let z = length-replicate {A = ℕ} 11280 0 in omega arith in

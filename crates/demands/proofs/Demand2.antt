@@ -20,7 +20,7 @@ use Rattle.table.specs.declared.ItemId.{ItemId}
 use Rattle.rules.specs.Derivations.{sceneOf}
 use Rattle.rules.specs.Places.{placesIn}
 use Rattle.rules.specs.Words.{wordsOf}
-use Rattle.rules.specs.Opening.{accepted, opened, leftBy, after}
+use Rattle.rules.specs.Opening.{accepted, opened, leftBy, afterBy, after}
 use Rattle.questions.specs.Questions.{verdictIn, sizeIn, traceIn, sourcesIn, propertyIn, listAfter}
 use Rattle.questions.specs.Questions as Q
 use Rattle.asked.specs.declared.FileVerdict.{FileVerdict}
@@ -75,8 +75,8 @@ module _ (head : List ℕ) (total : ℕ) (table : List ℕ) where
     good-opened = ok-then _ _ tt (ok-check 1 0 _ (le-leb 11280 (length table) enough)) ∙ good-accepted total head f good
 
     good-after : after total head table ≡ wordsOf total head f ++ drop 11280 table
-    unfolding after leftBy
-    good-after = pick-yes _ _ (le-leb 11280 (length table) enough) ∙ ap (leftBy total head table) (good-accepted total head f good)
+    unfolding afterBy leftBy
+    good-after = pick-yes _ _ (le-leb 11280 (length table) enough) ∙ ap (leftBy wordsOf total head table) (good-accepted total head f good)
 
     asked : {A B : Type 0} (told : Answer A → B) (k : File → Answer A) (r : B) → r ≡ told (opened (length table) total head >>= k) → r ≡ told (k f)
     unfolding _>>=_

@@ -84,7 +84,7 @@ unfolding FieldsChoice.pick FieldsField.beAt BoxesAnswer._>>=_ BoxesAnswer._>>_ 
     RulesJoined.rowOf RulesPlaces.placesAt RulesPlaces.placesBy RulesPlaces.propertyOffset RulesPlaces.fileOffset
     RulesOpening.accepted RulesOpening.opened RulesOpening.listed RulesOpening.pictured Q.verdictIn Q.sizeIn Q.foundBy
     Q.traceIn Q.sourcesIn Q.partOf Q.propertyIn Q.verdict Q.size Q.trace Q.sources Q.property Q.listAfter
-    RulesOpening.leftBy RulesOpening.after RulesRules.inOrder RulesRules.essentialKnown RulesRules.countOf
+    RulesOpening.leftBy RulesOpening.afterBy RulesRules.inOrder RulesRules.essentialKnown RulesRules.countOf
     RulesRules.ispeBefore RulesRules.rule12 RulesRules.rule13-14 RulesRules.rule15-29-16 RulesRules.rule17
     RulesRules.rule18 RulesRules.rule19 RulesRules.rule20 RulesRules.byDepth RulesRules.judged
 own-answers = (refl, refl, refl, refl)

@@ -20,4 +20,5 @@ pub mod Outcomes
 pub mod FaceOutcomes
 pub mod FaceSame
 pub mod Behind
+pub mod Same
 pub mod Example

@@ -12,7 +12,7 @@ use Rattle.boxes.specs.Answer.{Answer, ok, refuse, check, _>>=_, _>>_}
 use Rattle.boxes.proofs.AnswerLaws.{bind-ok, then-ok, check-ok}
 use Rattle.contents.specs.File.{File}
 use Rattle.rules.specs.Words.{tableWords, wordsOf}
-use Rattle.rules.specs.Opening.{accepted, opened, leftBy, after}
+use Rattle.rules.specs.Opening.{accepted, opened, leftBy, afterBy, after}
 use Rattle.faults.specs.Good.{GoodFile}
 use Rattle.faults.proofs.GoodLaws.{accepted-good, first-refused, good-accepted}
 use Rattle.pictures.specs.declared.Point.{Point}
@@ -57,7 +57,7 @@ module _ (head : List ℕ) (total : ℕ) (table left : List ℕ) (is : left ≡ 
   -- a call is answered or refused
   pub outcome : ((f : File) (n p : ℕ) → asked f ≡ refuse n p → Unmet f n p) →
       Outcome head total table asked told Unmet r left
-  unfolding opened after leftBy
+  unfolding opened afterBy leftBy
   outcome h = by (opened (length table) total head >>= asked) refl
     where
       by : (m : Answer A) → (opened (length table) total head >>= asked) ≡ m → Outcome head total table asked told Unmet r left
@@ -66,24 +66,24 @@ module _ (head : List ℕ) (total : ℕ) (table left : List ℕ) (is : left ≡ 
           let y = then-ok _ _ (x .0) (x .1) in
           let enough = leb-true tableWords (length table) (check-ok 1 0 _ (y .0) (y .1)) in
           answered enough (x .0) (accepted-good total head (x .0) (y .2)) a (x .2) (given ∙ ap told e)
-          (is ∙ pick-yes _ _ (le-leb tableWords (length table) enough) ∙ ap (leftBy total head table) (y .2))
+          (is ∙ pick-yes _ _ (le-leb tableWords (length table) enough) ∙ ap (leftBy wordsOf total head table) (y .2))
       by (refuse n p) e = refused n p (given ∙ ap told e) (refused-call head total table left is asked Unmet h n p e)
 
   -- and each reason for a refusal refuses it
   pub refuses : ((f : File) (n p : ℕ) → Unmet f n p → asked f ≡ refuse n p) →
       Refuses head total table asked told Unmet r left
-  unfolding opened after leftBy check _>>=_ _>>_
+  unfolding opened afterBy leftBy check _>>=_ _>>_
   refuses h n p u (short l i j k) =
       let s = lt-leb tableWords (length table) l in
       (given ∙ rw s (ap told (ap (λ (m : ℕ). refuse m 0) (sym i) ∙ ap (refuse n) (sym j))), is ∙ pick-no _ _ s ∙ sym k)
   refuses h n p u (bad l w k) =
       let s = le-leb tableWords (length table) l in
       let e = first-refused total head n p w in
-      (given ∙ rw (s, e), is ∙ pick-yes _ _ s ∙ ap (leftBy total head table) e ∙ sym k)
+      (given ∙ rw (s, e), is ∙ pick-yes _ _ s ∙ ap (leftBy wordsOf total head table) e ∙ sym k)
   refuses h n p u (unmet l f g w k) =
       let s = le-leb tableWords (length table) l in
       let e = good-accepted total head f g in
-      (given ∙ rw (s, e, h f n p w), is ∙ pick-yes _ _ s ∙ ap (leftBy total head table) e ∙ sym k)
+      (given ∙ rw (s, e, h f n p w), is ∙ pick-yes _ _ s ∙ ap (leftBy wordsOf total head table) e ∙ sym k)
 
   decided : ((f : File) (n p : ℕ) → asked f ≡ refuse n p → Unmet f n p) →
       ((f : File) (n p : ℕ) → Unmet f n p → asked f ≡ refuse n p) → Decided head total table asked told Unmet r left

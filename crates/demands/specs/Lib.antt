@@ -2,5 +2,6 @@ pub mod Call
 pub mod Numbers
 pub mod Places
 pub mod Outcome
+pub mod Same
 pub mod Example
 pub mod Met

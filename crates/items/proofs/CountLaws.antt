@@ -14,8 +14,8 @@ use Rattle.items.specs.declared.CountRead.{CountRead}
 use Rattle.items.specs.declared.CountRead.the-variants as count
 use Rattle.items.specs.declared.ItemsRead.{ItemsRead}
 use Rattle.items.specs.declared.ItemsRead.the-variants as read
-use Rattle.items.specs.inner.Told.{toldItems, ItemsLeft, CountIs, Stored}
-use Rattle.items.proofs.FillLaws.{stored-refused}
+use Rattle.items.specs.inner.Told.{toldItems, ItemsLeft, CountIs, Stored, KeysLeft}
+use Rattle.items.proofs.FillLaws.{stored-refused, no-keys}
 
 -- items
 module _ (s : List ℕ) (place base : ℕ) where
@@ -37,11 +37,17 @@ module _ (s : List ℕ) (place base : ℕ) where
   left-by a t u e h = record { kept = h .kept; told = λ pl x is q. h .told pl x is (sym e ∙ q) }
 
   module _ (y : CountRead) (f : CountIs s place y) where
-    pub items-refused : (r : Refusal) (t : List ℕ) → y ≡ count.Refused r → (read.Refused r ≡ toldItems (items place base s)) × ItemsLeft s place base t t
+    pub items-refused : (r : Refusal) (t m : List ℕ) → y ≡ count.Refused r →
+        (read.Refused r ≡ toldItems (items place base s)) × (ItemsLeft s place base t t × KeysLeft (items place base s) m)
     unfolding toldItems
-    items-refused r t e =
-        let q = items-gone (r .number) (r .place) (subst (CountIs s place) e f) in
-        (sym (ap toldItems q), left-by _ t t q (stored-refused _ t t (record { same-length = refl; past = refl }) (r .number) (r .place) refl))
+    items-refused r t m e =
+        let q = items-gone (r .number) (r .place) (subst (CountIs s place) e f) in (
+          sym (ap toldItems q),
+          (
+            left-by _ t t q (stored-refused _ t t (record { same-length = refl; past = refl }) (r .number) (r .place) refl),
+            no-keys _ (r .number) (r .place) q m,
+          ),
+        )
 
     -- from: the same place, as the code says it
     module _ (n at from : ℕ) (e : y ≡ count.Is n at) (same : at ≡ from) where
@@ -54,8 +60,10 @@ module _ (s : List ℕ) (place base : ℕ) where
       items-counted : items place base s ≡ exactly infe-step place n (base + from) [] (drop from s)
       items-counted = let k = counted in items-from n from (k .1) (k .0)
 
-      pub items-read : (r : ItemsRead) (t u : List ℕ) →
+      pub items-read : (r : ItemsRead) (t u m : List ℕ) →
           (r ≡ toldItems (exactly infe-step place n (base + from) [] (drop from s))) ×
-          Stored (exactly infe-step place n (base + from) [] (drop from s)) t u → (r ≡ toldItems (items place base s)) ×
-          ItemsLeft s place base t u
-      items-read r t u h = (h .0 ∙ sym (ap toldItems items-counted), left-by _ t u items-counted (h .1))
+          (Stored (exactly infe-step place n (base + from) [] (drop from s)) t u ×
+          KeysLeft (exactly infe-step place n (base + from) [] (drop from s)) m) → (r ≡ toldItems (items place base s)) ×
+          (ItemsLeft s place base t u × KeysLeft (items place base s) m)
+      items-read r t u m h =
+          (h .0 ∙ sym (ap toldItems items-counted), (left-by _ t u items-counted (h .1 .0), λ is q. h .1 .1 is (sym items-counted ∙ q)))

@@ -2,9 +2,9 @@
 use Prim.Native.Nat.{ℕ, _+_, _%_, _≤_, _<_}
 use native.Mathlib.Omega.{arith}
 use native.Mathlib.Decide.{decLe}
-use mathlib.Core.Path.{_≡_, sym, ap, _∙_}
+use mathlib.Core.Path.{_≡_, ap, _∙_}
 use mathlib.Core.List.{List}
-use mathlib.Core.Bool.{Bool, true, false, not}
+use mathlib.Core.Bool.{true, false, not}
 use lib.ListN.{length, drop}
 use lib.Dec.{leb, eqb}
 use borrow.Author.Tests.{le-leb, lt-leb}
@@ -28,10 +28,6 @@ use Rattle.forms.proofs.StepLaws.{
 }
 use Rattle.contents.specs.Full.{Full, full, between, upto, idBytes}
 use Rattle.contents.specs.Iinf.{Item, idsOf, infe-form, iinf-count}
-
--- member: the code's test of an ID, in terms of the items before
-pub taken-is : (c d : Bool) (id x : ℕ) (ids js : List ℕ) → c ≡ member id ids → c ≡ d → id ≡ x → ids ≡ js → member x js ≡ d
-taken-is c d id x ids js e q i j = rw (← i, ← j) (sym e ∙ q)
 
 -- infe-form
 module _ (before : List Item) (p : ℕ) (s : List ℕ) where

@@ -1,6 +1,9 @@
 pub mod TableLaws
 pub mod FieldLaws
 pub mod StepLaws
+pub mod KeyLaws
+pub mod HeldLaws
+pub mod MoveLaws
 pub mod NextLaws
 pub mod FillLaws
 pub mod CountLaws

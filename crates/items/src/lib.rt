@@ -1,32 +1,46 @@
 // `iinf`: the items into their records.
 ghost use mathlib.Core.Path.{_≡_};
 ghost use mathlib.Core.Logic.{_⊎_};
-ghost use mathlib.Core.List.{List, []};
-ghost use Prim.Native.Nat.{ℕ, _+_, _≤_, _<_};
-ghost use lib.ListN.{length, drop};
+ghost use mathlib.Core.List.{List, [], _∷_, _++_};
+ghost use Prim.Native.Nat.{ℕ, _+_, _-_, _≤_, _<_};
+ghost use lib.ListN.{length, take, drop, replicate};
 ghost use lib.Dec.{eqb};
 ghost use Rattle.fields.specs.Choice.{pick};
-ghost use Rattle.fields.specs.Lists.{member};
 ghost use Rattle.boxes.specs.Exactly.{exactly};
 ghost use Rattle.forms.specs.Form.{Form, got};
 ghost use Rattle.contents.specs.Full.{Full, full, between, upto, idBytes};
 ghost use Rattle.contents.specs.Iinf.{Item, idsOf, infe-step, items};
-ghost use Rattle.records.specs.inner.Rows.{idsIn};
-ghost use Rattle.items.specs.inner.Told.{toldItems, ItemsLeft, itemOf, InfeIs, CountIs, NextIs, Filling, rowPut, slotPut, Stored};
+ghost use Rattle.records.specs.inner.Keys.{keyOf, noKey};
+ghost use Rattle.items.specs.inner.Told.{
+  toldItems,
+  ItemsLeft,
+  Held,
+  RoomAt,
+  RoomIs,
+  itemOf,
+  InfeIs,
+  CountIs,
+  NextIs,
+  rowPut,
+  movedUp,
+  movedDown,
+  Stored,
+  KeysLeft,
+};
 use boxes::Child;
 use boxes::Refusal;
 use contents::FullRead;
-use records::FoundRow;
 use table::ItemId;
 use table::ItemRow;
 use table::Table;
 
-// What an `infe` says of an item. hidden is 1 or 0.
+// What an `infe` says of an item, and where its key goes. hidden is 1 or 0.
 pub struct Info {
     pub id: ItemId,
     pub kind: u32,
     pub hidden: u32,
     pub protection: u32,
+    pub room: usize,
 }
 
 pub enum InfeRead {
@@ -34,40 +48,37 @@ pub enum InfeRead {
     Refused(Refusal),
 }
 
-// The IDs of the rows that are filled: none is under `least`, and all are under `above`.
-pub struct Bounds {
-    pub least: u64,
-    pub above: u64,
+// Where the keys of the rows that are filled begin and end.
+pub struct Keys {
+    pub first: usize,
+    pub end: usize,
 }
 
-// The bounds of no ID: each lies out of them.
-const NO_BOUNDS: Bounds = Bounds {
-    least: 0x100000000,
-    above: 0,
-};
+// Where the key of an ID goes among the keys, unless one of them has it.
+pub enum Room {
+    At(usize),
+    Taken,
+}
 
-// Whether an ID is that of one of the first n rows, all of whose IDs lie in bounds and have their slots filled: most
-// writers' IDs rise, some writers' fall, and of those in no order few fall into a slot that is filled. Then no row is
-// looked at.
-fn is_taken(table: &[u32], n: usize, id: ItemId, bounds: Bounds, slots: &[u32]) -> bool
-    requires { ⌜ Filling (now table) n bounds (now slots) ⌝ }
-    ensures { λ r. ⌜ r ≡ member (id .0) (idsIn (now (table .entry)) n) ⌝ }
+// Most writers' IDs rise, some writers' fall: then the last key is looked at, or the first, and no other.
+fn room_for(keys: &[u64; 512], at: Keys, id: ItemId) -> Room
+    requires { ⌜ ((ids : List ℕ) × Held ids at (now keys)) ⌝ }
+    ensures { λ r. ⌜ ((ids : List ℕ) → Held ids at (now (keys .entry)) → RoomIs ids at (id .0) r) ⌝ }
 {
-    let x = id.0 as u64;
-    if bounds.above <= x {
-        return false;
+    let key = records::key_of(id, ItemRow(0));
+    let end = at.end;
+    if keys[end - 1] < key {
+        return Room::At(end);
     }
-    if x < bounds.least {
-        return false;
+    let first = at.first;
+    if key + 255 < keys[first] {
+        return Room::At(first);
     }
-    if table::word(slots, records::slot_of(id)) == 0 {
-        return false;
+    let k = records::last_upto(keys, key + 255);
+    if keys[k] < key {
+        return Room::At(k + 1);
     }
-    let f = records::row_in_slot(table, n, id, slots);
-    match f {
-        FoundRow::At(_) => true,
-        FoundRow::Nothing => false,
-    }
+    Room::Taken
 }
 
 // The fields of an `infe` behind its version and flags, the ID being w bytes wide.
@@ -76,54 +87,51 @@ fn read_info(
     w: usize,
     flags: u32,
     place: u64,
-    table: &[u32],
-    n: usize,
-    bounds: Bounds,
-    slots: &[u32],
+    filled: Keys,
+    keys: &[u64; 512],
 ) -> InfeRead
-    requires { ⌜ (4 ≤ length (now s)) × ((w ≡ 2) ⊎ (w ≡ 4)) × Filling (now table) n bounds (now slots) ⌝ }
+    requires { ⌜ (4 ≤ length (now s)) × ((w ≡ 2) ⊎ (w ≡ 4)) × ((ids : List ℕ) × Held ids filled (now keys)) ⌝ }
     ensures { λ r. ⌜ ((v : ℕ) → full (between 2 3) .read place (now (s .entry)) ≡ got
         (record { version = v; flags = flags }) (drop 4 (now (s .entry))) → pick (eqb v 2) 2 4 ≡ w →
-        InfeIs (idsIn (now (table .entry)) n) (now (s .entry)) place r) ⌝ }
+        (before : List Item) → Held (idsOf before) filled (now (keys .entry)) →
+        InfeIs before filled (now (s .entry)) place r) ⌝ }
 {
     if s.len() < 4 + w {
         return InfeRead::Refused(Refusal { number: 8, place });
     }
     let id = ItemId(fields::be_id(s, 4, w));
-    if is_taken(table, n, id, bounds, slots) {
-        return InfeRead::Refused(Refusal { number: 10, place });
+    let r = room_for(keys, filled, id);
+    match r {
+        Room::Taken => InfeRead::Refused(Refusal { number: 10, place }),
+        Room::At(room) => {
+            if s.len() < 10 + w {
+                return InfeRead::Refused(Refusal { number: 8, place });
+            }
+            InfeRead::Is(Info {
+                id,
+                kind: fields::be32(s, 6 + w),
+                hidden: flags % 2,
+                protection: fields::be16(s, 4 + w),
+                room,
+            })
+        }
     }
-    if s.len() < 10 + w {
-        return InfeRead::Refused(Refusal { number: 8, place });
-    }
-    InfeRead::Is(Info {
-        id,
-        kind: fields::be32(s, 6 + w),
-        hidden: flags % 2,
-        protection: fields::be16(s, 4 + w),
-    })
 }
 
 // The content of an `infe` at a place.
-fn read_infe(
-    s: &[u8],
-    place: u64,
-    table: &[u32],
-    n: usize,
-    bounds: Bounds,
-    slots: &[u32],
-) -> InfeRead
-    requires { ⌜ Filling (now table) n bounds (now slots) ⌝ }
-    ensures { λ r. ⌜ InfeIs (idsIn (now (table .entry)) n) (now (s .entry)) place r ⌝ }
+fn read_infe(s: &[u8], place: u64, filled: Keys, keys: &[u64; 512]) -> InfeRead
+    requires { ⌜ ((ids : List ℕ) × Held ids filled (now keys)) ⌝ }
+    ensures { λ r. ⌜ ((before : List Item) → Held (idsOf before) filled (now (keys .entry)) →
+        InfeIs before filled (now (s .entry)) place r) ⌝ }
 {
     let h = contents::read_full(s, 2, 3, place);
     match h {
         FullRead::Refused(r) => InfeRead::Refused(r),
         FullRead::Is { version, flags } => {
             if version == 2 {
-                return read_info(s, 2, flags, place, table, n, bounds, slots);
+                return read_info(s, 2, flags, place, filled, keys);
             }
-            read_info(s, 4, flags, place, table, n, bounds, slots)
+            read_info(s, 4, flags, place, filled, keys)
         }
     }
 }
@@ -137,19 +145,18 @@ pub enum NextItem {
 // `infe` as the number that its letters spell.
 const INFE: u32 = 0x696e6665;
 
-// What the box at a place of an `iinf` says, behind the items of the first n rows.
+// What the box at a place of an `iinf` says, behind the items whose keys there are.
 fn next_item(
     s: &[u8],
     at: usize,
     place: u64,
     base: u64,
-    table: &[u32],
-    n: usize,
-    bounds: Bounds,
-    slots: &[u32],
+    filled: Keys,
+    keys: &[u64; 512],
 ) -> NextItem
-    requires { ⌜ (base + length (now s) < 18446744073709551616) × (at ≤ length (now s)) × Filling (now table) n bounds (now slots) ⌝ }
-    ensures { λ r. ⌜ ((before : List Item) → idsIn (now (table .entry)) n ≡ idsOf before → NextIs (now (s .entry)) at place base before r) ⌝ }
+    requires { ⌜ (base + length (now s) < 18446744073709551616) × (at ≤ length (now s)) × ((ids : List ℕ) × Held ids filled (now keys)) ⌝ }
+    ensures { λ r. ⌜ ((before : List Item) → Held (idsOf before) filled (now (keys .entry)) →
+        NextIs (now (s .entry)) at place base before filled r) ⌝ }
 {
     let c = boxes::child_at(s, at);
     match c {
@@ -161,7 +168,7 @@ fn next_item(
                     place: here,
                 });
             }
-            let r = read_infe(&s[body..end], here, table, n, bounds, slots);
+            let r = read_infe(&s[body..end], here, filled, keys);
             match r {
                 InfeRead::Is(info) => NextItem::Is { info, end },
                 InfeRead::Refused(f) => NextItem::Refused(f),
@@ -189,39 +196,65 @@ fn put_item(table: &mut [u32], row: ItemRow, info: Info)
     table[a + 12] = info.protection;
 }
 
-// A row into the slot of its ID, as records::row_in_slot looks for it.
-fn put_slot(slots: &mut [u32], id: ItemId, row: ItemRow)
-    requires { ⌜ (768 ≤ length (now slots)) × (row .0 < 256) ⌝ }
-    ensures { λ _. ⌜ now (slots .exit) ≡ slotPut (now (slots .entry)) (row .0) (id .0) ⌝ }
+// The keys from a place up to an end, each one place further up.
+fn move_up(keys: &mut [u64; 512], from: usize, end: usize)
+    requires { ⌜ (length (now keys) ≡ 512) × (from ≤ end) × (end < 512) ⌝ }
+    ensures { λ _. ⌜ now (keys .exit) ≡ movedUp (now (keys .entry)) from end ⌝ }
 {
-    let slot = records::slot_of(id);
-    let k = row.0;
-    slots[512 + k] = slots[slot];
-    slots[slot] = k as u32 + 1;
+    let mut k = end;
+    while from < k {
+        keys[k] = keys[k - 1];
+        k -= 1;
+    }
 }
 
-// The larger of two numbers.
-fn larger(a: u64, b: u64) -> u64
-    ensures { λ r. ⌜ (a ≤ r) × (b ≤ r) ⌝ }
+// The keys from a place up to an end, each one place further down.
+fn move_down(keys: &mut [u64; 512], from: usize, end: usize)
+    requires { ⌜ (length (now keys) ≡ 512) × (0 < from) × (from ≤ end) × (end ≤ 512) ⌝ }
+    ensures { λ _. ⌜ now (keys .exit) ≡ movedDown (now (keys .entry)) (from - 1) end ⌝ }
 {
-    if a < b { b } else { a }
+    let mut k = from;
+    while k < end {
+        keys[k - 1] = keys[k];
+        k += 1;
+    }
 }
 
-// The smaller of two numbers.
-fn smaller(a: u64, b: u64) -> u64
-    ensures { λ r. ⌜ (r ≤ a) × (r ≤ b) ⌝ }
+// A key at a place among the others, which go out of its way on the side where fewer are.
+fn put_key(keys: &mut [u64; 512], at: Keys, room: usize, key: u64) -> Keys
+    requires { ⌜ ((ids : List ℕ) × (id : ℕ) × Held ids at (now keys) × RoomAt ids at id room ×
+        (length ids < 256) × (key ≡ keyOf id (length ids))) ⌝ }
+    ensures { λ r. ⌜ ((ids : List ℕ) (id : ℕ) → Held ids at (now (keys .entry)) → RoomAt ids at id room →
+        length ids < 256 → key ≡ keyOf id (length ids) → Held (ids ++ (id ∷ [])) r (now (keys .exit))) ⌝ }
 {
-    if a < b { a } else { b }
+    let first = at.first;
+    let end = at.end;
+    if end - room <= room - first {
+        move_up(&mut *keys, room, end);
+        keys[room] = key;
+        return Keys {
+            first,
+            end: end + 1,
+        };
+    }
+    move_down(&mut *keys, first, room);
+    keys[room - 1] = key;
+    Keys {
+        first: first - 1,
+        end,
+    }
 }
 
-// Bounds of the same IDs and one more.
-fn widened(bounds: Bounds, id: ItemId) -> Bounds
-    ensures { λ r. ⌜ (r .least ≤ bounds .least) × (r .least ≤ id .0) × (bounds .above ≤ r .above) × (id .0 < r .above) ⌝ }
+// The keys of no row: the first would be the 256th.
+fn clear_keys(keys: &mut [u64; 512])
+    requires { ⌜ length (now keys) ≡ 512 ⌝ }
+    ensures { λ _. ⌜ now (keys .exit) ≡ take 256 (now (keys .entry)) ++ replicate 256 noKey ⌝ }
 {
-    let x = id.0 as u64;
-    let least = smaller(bounds.least, x);
-    let above = larger(bounds.above, x + 1);
-    Bounds { least, above }
+    let mut k: usize = 256;
+    while k < 512 {
+        keys[k] = records::NO_KEY;
+        k += 1;
+    }
 }
 
 pub enum ItemsRead {
@@ -269,7 +302,7 @@ fn count_of(s: &[u8], w: usize, place: u64) -> CountRead
     }
 }
 
-// The n items whose boxes begin at a place of s, into the first n rows, and these into the slots of their IDs.
+// The n items whose boxes begin at a place of s, into the first n rows, and these into the keys of their IDs.
 fn fill_items(
     s: &[u8],
     from: usize,
@@ -277,27 +310,32 @@ fn fill_items(
     place: u64,
     base: u64,
     table: &mut [u32],
-    slots: &mut [u32],
+    keys: &mut [u64; 512],
 ) -> ItemsRead
-    requires { ⌜ (11280 ≤ length (now table)) × (768 ≤ length (now slots)) ×
+    requires { ⌜ (11280 ≤ length (now table)) × (now keys ≡ replicate 512 0) ×
         (base + length (now s) < 18446744073709551616) × (from ≤ length (now s)) × (n ≤ 256) ⌝ }
     ensures { λ r. ⌜ r ≡ toldItems (exactly infe-step place n (base + from) [] (drop from (now (s .entry)))) ⌝ }
     ensures { λ _. ⌜ Stored (exactly infe-step place n (base + from) [] (drop from (now (s .entry)))) (now (table .entry)) (now (table .exit)) ⌝ }
+    ensures { λ _. ⌜ KeysLeft (exactly infe-step place n (base + from) [] (drop from (now (s .entry)))) (now (keys .exit)) ⌝ }
 {
+    clear_keys(&mut *keys);
     let mut at = from;
-    let mut bounds = NO_BOUNDS;
+    let mut filled = Keys {
+        first: 256,
+        end: 256,
+    };
     let mut i: usize = 0;
     while i < n {
-        let t = next_item(s, at, place, base, &*table, i, bounds, &*slots);
+        let t = next_item(s, at, place, base, filled, &*keys);
         match t {
             NextItem::Refused(r) => {
                 return ItemsRead::Refused(r);
             }
             NextItem::Is { info, end } => {
                 let id = info.id;
+                let room = info.room;
                 put_item(table, ItemRow(i), info);
-                bounds = widened(bounds, id);
-                put_slot(slots, id, ItemRow(i));
+                filled = put_key(&mut *keys, filled, room, records::key_of(id, ItemRow(i)));
                 at = end;
                 i += 1;
             }
@@ -309,17 +347,19 @@ fn fill_items(
     ItemsRead::Items(n)
 }
 
-// The items of the `iinf` at a place, whose content s begins at `base`, into the records of a table that is all 0.
+// The items of the `iinf` at a place, whose content s begins at `base`, into the records of a table that is all 0,
+// and their keys into words that are.
 pub fn read_items(
     s: &[u8],
     place: u64,
     base: u64,
     table: &mut [u32],
-    slots: &mut [u32],
+    keys: &mut [u64; 512],
 ) -> ItemsRead
-    requires { ⌜ (11280 ≤ length (now table)) × (768 ≤ length (now slots)) × (base + length (now s) < 18446744073709551616) ⌝ }
+    requires { ⌜ (11280 ≤ length (now table)) × (now keys ≡ replicate 512 0) × (base + length (now s) < 18446744073709551616) ⌝ }
     ensures { λ r. ⌜ r ≡ toldItems (items place base (now (s .entry))) ⌝ }
     ensures { λ _. ⌜ ItemsLeft (now (s .entry)) place base (now (table .entry)) (now (table .exit)) ⌝ }
+    ensures { λ _. ⌜ KeysLeft (items place base (now (s .entry))) (now (keys .exit)) ⌝ }
 {
     let c = read_count(s, place);
     match c {
@@ -328,9 +368,9 @@ pub fn read_items(
             // Two calls, one for each width of the count: of a function with one call the compiler makes a part of its
             // caller, and reading becomes one function that keeps its counters in memory.
             if at == 6 {
-                return fill_items(s, 6, count, place, base, table, slots);
+                return fill_items(s, 6, count, place, base, table, keys);
             }
-            fill_items(s, at, count, place, base, table, slots)
+            fill_items(s, at, count, place, base, table, keys)
         }
     }
 }

@@ -16,9 +16,9 @@ use Rattle.rules.specs.Joined.{rowOf}
 use Rattle.rules.specs.Places.{Places, placesIn}
 use Rattle.rules.specs.Derivations.{sceneOf}
 use Rattle.rules.specs.Rules.{goodPrimary, inOrder, rule12, rule15-29-16, judged}
-use Rattle.rules.specs.Words.{wordsOf}
+use Rattle.rules.specs.Words.{fileWords}
 use Rattle.records.specs.inner.Raw.{Bounded}
-use Rattle.records.specs.inner.Rows.{Rowed}
+use Rattle.records.specs.inner.Rows.{TargetsRowed}
 use Rattle.records.specs.declared.FoundRow.the-variants.{At}
 use Rattle.views.specs.inner.View.{TableOf, AllPlaced, AllFed}
 use Rattle.views.proofs.LookupLaws.{told-at, found-told}
@@ -54,7 +54,7 @@ module _ (total : ℕ) (head : List ℕ) (f : File) where
   judged-parts = simp then-then
 
 -- the rows that were read beside the targets are those of the items that they name
-pub rowed-resolved : (t rows head : List ℕ) (pl : Places) (f : File) → TableOf t head pl f → Rowed t rows → Resolved t rows f
+pub rowed-resolved : (t rows head : List ℕ) (pl : Places) (f : File) → TableOf t head pl f → TargetsRowed t rows → Resolved t rows f
 rowed-resolved t rows head pl f v h k l =
     let id = getD t (7184 + k) 0 in
     told-at id (f .items) (record { 0 = getD rows k 0 }) (found-told v id (getD t 0 0)
@@ -106,7 +106,7 @@ module _ (head t x : List ℕ) (total idat : ℕ) (f : File) (w : Read t head to
 
   -- the table with sizes
   module _ (few : total < 18446744073709551616) (placed : AllPlaced total head f) (fed : AllFed total head f) where
-    filled-targets : (j : ℕ) → j < targetsIn (f .derivations) → getD (wordsOf total head f ++ x) (7184 + j) 0 ≡ getD t (7184 + j) 0
+    filled-targets : (j : ℕ) → j < targetsIn (f .derivations) → getD (fileWords total head f ++ x) (7184 + j) 0 ≡ getD t (7184 + j) 0
     filled-targets j h =
         ap (λ (u : List ℕ). getD (u ++ x) (7184 + j) 0) (sym (filled-all total head f few (w .read) placed))
         ∙ filled-target total head f bounds x (length (f .items)) j h
@@ -114,7 +114,7 @@ module _ (head t x : List ℕ) (total idat : ℕ) (f : File) (w : Read t head to
         ∙ ap (λ (u : List ℕ). getD (u ++ x) (7184 + j) 0) (filled-none total head f)
         ∙ ap (λ (u : List ℕ). getD u (7184 + j) 0) (sym (w .is))
 
-    pub drawn : (u rows : List ℕ) → u ≡ wordsOf total head f ++ x → Resolved t rows f → Drawn u rows head total f
+    pub drawn : (u rows : List ℕ) → u ≡ fileWords total head f ++ x → Resolved t rows f → Drawn u rows head total f
     drawn u rows e r =
         record {
           view = rw e (placed-view total head f x few (w .read) placed);
@@ -148,7 +148,7 @@ module _ (head t x : List ℕ) (total idat : ℕ) (f : File) (w : Read t head to
     (derives : v ≡ toldJudged (inOrder (ruleBy Derived total head f) 0 (f .items)))
     (declares : s ≡ toldFilled (inOrder (λ (r : ℕ) (i : Item). rule15-29-16 f i) 0 (f .items)))
     (deep : (s : Scene) → length s ≡ n → InputsAre t rows s → (r : ℕ) → r < n → getD d r 0 ≡ depth s r)
-    (fills : ((r : ℕ) → r < length (f .items) → getD d r 0 ≡ depth (sceneOf total head f) r) → s ≡ filled.All → u ≡ wordsOf total head f ++ x) where
+    (fills : ((r : ℕ) → r < length (f .items) → getD d r 0 ≡ depth (sceneOf total head f) r) → s ≡ filled.All → u ≡ fileWords total head f ++ x) where
   -- what is refused leaves nothing to say of the table
   refused-rest : (y : Refusal) → Refused y ≡ toldJudged (restJudged total head f) → RestBy head total f x (Refused y) u
   unfolding toldJudged
@@ -176,7 +176,7 @@ module _ (head t x : List ℕ) (total idat : ℕ) (f : File) (w : Read t head to
       counts : n ≡ length (f .items)
       counts = counted ∙ read-here head t x total idat f w .items
 
-      sized : u ≡ wordsOf total head f ++ x
+      sized : u ≡ fileWords total head f ++ x
       sized =
           let i = inputs-are total head f t rows (placesIn total head) (read-here head t x total idat f w) resolved fed in
           fills (λ r h. deep (sceneOf total head f) (scene-long total head f ∙ sym counts) i r (omega (arith, counts))) all

@@ -11,7 +11,7 @@ ghost use Rattle.rules.specs.Derivations.{sceneOf};
 ghost use Rattle.boxes.specs.Types.{image};
 ghost use Rattle.pictures.specs.Scene.{pictureAt, goodSizes};
 ghost use Rattle.rules.specs.Rules.{inOrder, rule18, rule19, byDepth};
-ghost use Rattle.records.specs.inner.Rows.{Rowed};
+ghost use Rattle.records.specs.inner.Rows.{TargetsRowed};
 ghost use Rattle.views.specs.inner.View.{AllPlaced};
 ghost use Rattle.views.specs.inner.Told.{faultOf};
 ghost use Rattle.derived.specs.inner.Told.{Resolved};
@@ -250,7 +250,7 @@ fn judge_placed(head: &[u8], ends: Ends, table: &mut [u32], rows: &[u32]) -> Jud
 // The table of a file that was read becomes that of the accepted file, or the first fault of 12 to 20 and 29 is given.
 pub fn judge(head: &[u8], ends: Ends, table: &mut [u32], rows: &[u32]) -> Judged
     requires { ⌜ ((f : File) × (x : List ℕ) × Read (now table) (now head) (ends .total) (ends .idat) f x) ×
-        Rowed (now table) (now rows) ⌝ }
+        TargetsRowed (now table) (now rows) ⌝ }
     ensures { λ r. ⌜ ((f : File) (x : List ℕ) →
         Read (now (table .entry)) (now (head .entry)) (ends .total) (ends .idat) f x →
         JudgedBy (now (head .entry)) (ends .total) f x r (now (table .exit))) ⌝ }

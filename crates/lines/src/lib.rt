@@ -45,17 +45,18 @@ fn print_item(table: &[u32], row: ItemRow) {
     io::write_all(1, b"\n");
 }
 
-// `file`, total, primary ID, items; then a line for each item.
+// `file`, total, primary ID, items; then a line for each item, in the order of `iinf`.
 fn print_file(table: &[u32], total: u64, primary: ItemId, items: u32) {
     io::write_all(1, b"file");
     print_field(total);
     print_field(primary.0 as u64);
     print_field(items as u64);
     io::write_all(1, b"\n");
+    let rows = arranged::rows_by_place(table);
     let n = items as usize;
     let mut k: usize = 0;
     while k < n {
-        print_item(table, views::row_at(table, k));
+        print_item(table, ItemRow(table::word(&rows, k) as usize));
         k += 1;
     }
 }

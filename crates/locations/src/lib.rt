@@ -171,11 +171,18 @@ pub enum RowRead {
     Refused(Refusal),
 }
 
-fn row_for(table: &[u32], n: usize, id: ItemId, hope: ItemRow, slots: &[u32], place: u64) -> RowRead
+fn row_for(
+    table: &[u32],
+    n: usize,
+    id: ItemId,
+    hope: ItemRow,
+    keys: &[u64; 512],
+    place: u64,
+) -> RowRead
     requires { ⌜ (n ≤ 256) × (11280 ≤ length (now table)) ⌝ }
     ensures { λ r. ⌜ RowAre (now (table .entry)) n (id .0) place r ⌝ }
 {
-    let f = records::row_of(table, n, id, hope, slots);
+    let f = records::row_of(table, n, id, hope, keys);
     match f {
         FoundRow::At(row) => {
             if table[Table::item(row) + 11] == 1 {
@@ -251,7 +258,7 @@ fn read_entry(
     table: &[u32],
     n: usize,
     hope: ItemRow,
-    slots: &[u32],
+    keys: &[u64; 512],
     used: usize,
 ) -> EntryRead
     requires { ⌜ (at ≤ length (now s)) × GoodWidths w × (used ≤ 512) × (n ≤ 256) × (11280 ≤ length (now table)) ⌝ }
@@ -266,7 +273,7 @@ fn read_entry(
         n,
         ItemId(fields::be_id(s, at, wide)),
         hope,
-        slots,
+        keys,
         place,
     );
     match r {
@@ -397,14 +404,14 @@ fn put_entry(
     table: &mut [u32],
     n: usize,
     hope: ItemRow,
-    slots: &[u32],
+    keys: &[u64; 512],
     used: usize,
     idat: u64,
 ) -> EntryPut
     requires { ⌜ (at ≤ length (now s)) × GoodWidths w × (used ≤ 512) × (n ≤ 256) × (11280 ≤ length (now table)) ⌝ }
     ensures { λ r. ⌜ PutAre (now (table .entry)) (now (table .exit)) n w used place (now (s .entry)) at idat r ⌝ }
 {
-    let r = read_entry(s, at, w, place, &*table, n, hope, slots, used);
+    let r = read_entry(s, at, w, place, &*table, n, hope, keys, used);
     match r {
         EntryRead::Refused(f) => EntryPut::Refused(f),
         EntryRead::Is {
@@ -428,7 +435,7 @@ fn put_entries(
     place: u64,
     table: &mut [u32],
     n: usize,
-    slots: &[u32],
+    keys: &[u64; 512],
     idat: u64,
 ) -> LocationsRead
     requires { ⌜ (from ≤ length (now s)) × GoodWidths w × (n ≤ 256) × (11280 ≤ length (now table)) × Unplaced (now table) n ⌝ }
@@ -441,7 +448,7 @@ fn put_entries(
     let mut hope: usize = 0;
     let mut i: usize = 0;
     while i < count {
-        let t = put_entry(s, at, w, place, table, n, ItemRow(hope), slots, used, idat);
+        let t = put_entry(s, at, w, place, table, n, ItemRow(hope), keys, used, idat);
         match t {
             EntryPut::Refused(r) => {
                 return LocationsRead::Refused(r);
@@ -467,7 +474,7 @@ pub fn read_locations(
     place: u64,
     table: &mut [u32],
     n: usize,
-    slots: &[u32],
+    keys: &[u64; 512],
     idat: u64,
 ) -> LocationsRead
     requires { ⌜ (11280 ≤ length (now table)) × (n ≤ 256) × Unplaced (now table) n ⌝ }
@@ -484,9 +491,9 @@ pub fn read_locations(
                 Sizes::Is { widths, count } => {
                     // Behind the count, which is as wide as an ID. Two calls, so that the loop stays a function of its own (items::read_items).
                     if widths.id == 2 {
-                        return put_entries(s, 8, count, widths, place, table, n, slots, idat);
+                        return put_entries(s, 8, count, widths, place, table, n, keys, idat);
                     }
-                    put_entries(s, 10, count, widths, place, table, n, slots, idat)
+                    put_entries(s, 10, count, widths, place, table, n, keys, idat)
                 }
             }
         }

@@ -16,8 +16,8 @@ use Rattle.boxes.specs.declared.Refusal.{Refusal}
 use Rattle.contents.specs.File.{File, readFile}
 use Rattle.rules.specs.Places.{placesIn}
 use Rattle.rules.specs.Rules.{judged}
-use Rattle.rules.specs.Words.{tableWords, headWords, wordsOf}
-use Rattle.rules.specs.Opening.{accepted, opened, leftBy, after}
+use Rattle.rules.specs.Words.{tableWords, headWords, fileWords}
+use Rattle.rules.specs.Opening.{accepted, opened, leftBy, afterBy, fileAfter}
 use Rattle.records.specs.inner.Raw.{rawOf}
 use Rattle.records.specs.inner.Rows.{Rowed}
 use Rattle.records.proofs.RawLaws.{raw-length}
@@ -30,6 +30,8 @@ use Rattle.records.proofs.BoundLaws.{read-bounds}
 use Rattle.rules.proofs.RuleLaws.{judged-each}
 use Rattle.derived.specs.inner.Told.{Resolved}
 use Rattle.judging.proofs.JudgeLaws.{rowed-resolved, read-here, drawn}
+use Rattle.arranged.specs.inner.Order.{InOrder}
+use Rattle.opening.proofs.OrderLaws.{ordered-places}
 use Rattle.opening.specs.Told.{toldOpened}
 use Rattle.opening.specs.declared.Opened.the-variants.{Accepted, Refused}
 
@@ -66,9 +68,12 @@ module _ (total : ℕ) (head t : List ℕ) where
     unfolding opened check _>>_
     opened-is = rw (le-leb tableWords (length t) enough)
 
-    pub after-is : after total head t ≡ leftBy total head t (accepted total head)
-    unfolding after
-    after-is = pick-yes _ _ (le-leb tableWords (length t) enough)
+    pub left-is : (words : ℕ → List ℕ → File → List ℕ) → afterBy words total head t ≡ leftBy words total head t (accepted total head)
+    unfolding afterBy
+    left-is words = pick-yes _ _ (le-leb tableWords (length t) enough)
+
+    pub after-is : fileAfter total head t ≡ leftBy fileWords total head t (accepted total head)
+    after-is = left-is fileWords
 
     words-are : readWords total head t ≡ Parts.leftByReading total head t (readFile total head)
     unfolding readWords
@@ -77,9 +82,9 @@ module _ (total : ℕ) (head t : List ℕ) where
     -- what refuses leaves 0
     off : (y : Refusal) → accepted total head ≡ refuse (y .number) (y .place) →
         (Refused y ≡ toldOpened (opened (length t) total head)) ×
-        (replicate 11280 0 ++ drop 11280 t ≡ after total head t)
+        (replicate 11280 0 ++ drop 11280 t ≡ fileAfter total head t)
     unfolding toldOpened leftBy
-    off y e = (ap toldOpened (sym (opened-is ∙ e)), sym (after-is ∙ ap (leftBy total head t) e))
+    off y e = (ap toldOpened (sym (opened-is ∙ e)), sym (after-is ∙ ap (leftBy fileWords total head t) e))
 
     refused : {y : Refusal} → readFile total head ≡ refuse (y .number) (y .place) → accepted total head ≡ refuse (y .number) (y .place)
     unfolding accepted _>>=_
@@ -89,18 +94,18 @@ module _ (total : ℕ) (head t : List ℕ) where
   unfolding Parts.leftByReading
   left-nothing y = refl
 
-  short : leb tableWords (length t) ≡ false → readWords total head t ≡ after total head t
-  unfolding readWords after
+  short : leb tableWords (length t) ≡ false → readWords total head t ≡ fileAfter total head t
+  unfolding readWords afterBy
   short q = pick-no _ _ q ∙ sym (pick-no _ _ q)
 
   -- reading refuses
   pub read-off : (y : Refusal) → readAnswer (length t) total head ≡ read.Refused y →
-      (Refused y ≡ toldOpened (opened (length t) total head)) × (readWords total head t ≡ after total head t)
+      (Refused y ≡ toldOpened (opened (length t) total head)) × (readWords total head t ≡ fileAfter total head t)
   unfolding readAnswer opened toldOpened check _>>_
   read-off y e = by (leb tableWords (length t)) refl (told-refused _ _ y e)
     where
       by : (b : Bool) → leb tableWords (length t) ≡ b → (check 1 0 (leb tableWords (length t)) >> readFile total head) ≡ refuse (y .number) (y .place)
-          → (Refused y ≡ toldOpened (opened (length t) total head)) × (readWords total head t ≡ after total head t)
+          → (Refused y ≡ toldOpened (opened (length t) total head)) × (readWords total head t ≡ fileAfter total head t)
       by true q r =
           let h = leb-true tableWords (length t) q in
           let g : readFile total head ≡ refuse (y .number) (y .place) = sym (ap (λ (b : Bool). check 1 0 b >> readFile total head) q) ∙ r in
@@ -130,7 +135,7 @@ module _ (total : ℕ) (head t : List ℕ) where
   pub judged-off : 11280 ≤ length t → (f : File) → readFile total head ≡ ok f → (y : Refusal) →
       judge.Refused y ≡ toldJudged (judged total head f) → (v z : List ℕ) → z ≡ cleared v →
       drop 11280 v ≡ drop 11280 t → 11280 ≤ length v
-      → (Refused y ≡ toldOpened (opened (length t) total head)) × (z ≡ after total head t)
+      → (Refused y ≡ toldOpened (opened (length t) total head)) × (z ≡ fileAfter total head t)
   unfolding cleared accepted _>>=_ _>>_
   judged-off h f r y j v z c d l =
       let e : accepted total head ≡ refuse (y .number) (y .place) = rw (r, judged-refused (judged total head f) y j) in
@@ -140,21 +145,24 @@ module _ (total : ℕ) (head t : List ℕ) where
   -- or accepted
   pub judged-on : 11280 ≤ length t → (f : File) → readFile total head ≡ ok f →
       judge.Good ≡ toldJudged (judged total head f) → (v : List ℕ) →
-      (judged total head f ≡ ok tt → v ≡ wordsOf total head f ++ drop 11280 t)
-      → (Accepted ≡ toldOpened (opened (length t) total head)) × (v ≡ after total head t)
+      (judged total head f ≡ ok tt → v ≡ fileWords total head f ++ drop 11280 t)
+      → (Accepted ≡ toldOpened (opened (length t) total head)) × (v ≡ fileAfter total head t)
   unfolding accepted _>>=_ _>>_ toldOpened leftBy
   judged-on h f r j v w =
       let k = judged-good (judged total head f) j in
       let e : accepted total head ≡ ok f = rw (r, k) in
-      (ap toldOpened (sym (opened-is h ∙ e)), w k ∙ sym (after-is h ∙ ap (leftBy total head t) e))
+      (ap toldOpened (sym (opened-is h ∙ e)), w k ∙ sym (after-is h ∙ ap (leftBy fileWords total head t) e))
 
--- of an accepted file the rows that were read beside the targets are still those of the items that they name: judging leaves the targets as they were
+-- of an accepted file the rows that were read beside the targets are still those of the items that they name: judging leaves the targets as
+-- they were; and the others are the places in rising ID order
 pub judged-rowed : (total : ℕ) (head : List ℕ) → total < 18446744073709551616 →
     (e : ℕ) (f : File) (u v x rows : List ℕ) → Read u head total e f x → Rowed u rows →
-    judge.Good ≡ toldJudged (judged total head f) → (judged total head f ≡ ok tt → v ≡ wordsOf total head f ++ x)
-    → (g : File) → readFile total head ≡ ok g → Resolved v rows g
+    judge.Good ≡ toldJudged (judged total head f) → (judged total head f ≡ ok tt → v ≡ fileWords total head f ++ x)
+    → (g : File) → readFile total head ≡ ok g → Resolved v rows g × InOrder rows g
 judged-rowed total head few e f u v x rows w r j l g q =
     let k = judged-good (judged total head f) j in
     let y = judged-each total head f k in
-    let d = drawn head u x total e f w few (y .by-13-14) (y .by-17) v rows (l k) (rowed-resolved u rows head _ f (read-here head u x total e f w) r) in
-    subst (λ (h : File). Resolved v rows h) (ok-inj _ _ (sym (w .read) ∙ q)) (d .resolved)
+    let v₀ = read-here head u x total e f w in
+    let d = drawn head u x total e f w few (y .by-13-14) (y .by-17) v rows (l k) (rowed-resolved u rows head _ f v₀ (r .0)) in
+    subst (λ (h : File). Resolved v rows h × InOrder rows h) (ok-inj _ _ (sym (w .read) ∙ q))
+    (d .resolved, ordered-places rows v₀ (r .1))

@@ -17,4 +17,4 @@ toldOpened (refuse n p) = opened.Refused (record { number = n; place = p })
 
 module _ (head : List ℕ) (total : ℕ) (table : List ℕ) where
   abbrev pub OpenedGiven : Opened → List ℕ → Type 0
-  OpenedGiven r left = (r ≡ toldOpened (Opening.opened (length table) total head)) × (left ≡ Opening.after total head table)
+  OpenedGiven r left = (r ≡ toldOpened (Opening.opened (length table) total head)) × (left ≡ Opening.fileAfter total head table)

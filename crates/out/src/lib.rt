@@ -6,10 +6,10 @@ ghost use lib.ListN.{length};
 ghost use Rattle.boxes.specs.Answer.{Answer, ok};
 ghost use Rattle.contents.specs.File.{File};
 ghost use Rattle.rules.specs.Places.{placesIn};
-ghost use Rattle.rules.specs.Words.{wordsOf};
+ghost use Rattle.rules.specs.Words.{wordsWith};
 ghost use Rattle.questions.specs.Questions.{partOf};
 ghost use Rattle.questions.specs.Questions as Q;
-ghost use Rattle.views.specs.inner.View.{TableOf};
+ghost use Rattle.records.specs.inner.Raw.{Bounded};
 ghost use Rattle.asked.specs.Told.{toldVerdict, toldSized};
 ghost use Rattle.traced.specs.Told.{toldTraced};
 ghost use Rattle.seam.specs.Points.{toldPointsFilled};
@@ -120,10 +120,12 @@ pub fn listed_numbers(l: Listed) -> [u64; 8]
     }
 }
 
-// The offset and the length of a property's box, by its record in the table of an accepted file; 0 and 0 for index 0.
+// The offset and the length of a property's box, by its record in the table of an accepted file, whatever the order of the
+// items' records in it; 0 and 0 for index 0.
 pub fn part_numbers(table: &[u32], index: PropertyIndex) -> [u64; 8]
-    ensures { λ r. ⌜ ((total : ℕ) (head x : List ℕ) (f : File) → now (table .entry) ≡ wordsOf total head f ++ x →
-        TableOf (now (table .entry)) head (placesIn total head) f → index .0 ≤ length (f .properties) →
+    ensures { λ r. ⌜ ((total : ℕ) (head records x : List ℕ) (f : File) →
+        now (table .entry) ≡ wordsWith records total head f ++ x →
+        length records ≤ 4096 → Bounded f → index .0 ≤ length (f .properties) →
         r ≡ outPart (ok (partOf (placesIn total head) f (index .0)))) ⌝ }
 {
     let k = index.0;

@@ -278,7 +278,7 @@ pub fn read_iprp_content(
     base: u64,
     table: &mut [u32],
     n: usize,
-    slots: &[u32],
+    keys: &[u64; 512],
 ) -> ShownRead
     requires { ⌜ (11280 ≤ length (now table)) × (n ≤ 256) × (base + length (now s) ≤ 65536) ⌝ }
     ensures { λ r. ⌜ r ≡ toldShown (iprp-content (idsIn (now (table .entry)) n) place base (now (s .entry))) ⌝ }
@@ -295,7 +295,7 @@ pub fn read_iprp_content(
                         let e0 = l.end0;
                         let b1 = l.body1;
                         let e1 = l.end1;
-                        return read_pair(s, base, b0, e0, b1, e1, table, n, slots);
+                        return read_pair(s, base, b0, e0, b1, e1, table, n, keys);
                     }
                 }
             }
@@ -314,7 +314,7 @@ fn read_pair(
     e1: usize,
     table: &mut [u32],
     n: usize,
-    slots: &[u32],
+    keys: &[u64; 512],
 ) -> ShownRead
     requires { ⌜ (b0 ≤ e0) × (e0 ≤ length (now s)) × (b1 ≤ e1) × (e1 ≤ length (now s)) × (11280 ≤ length (now table)) ×
         (n ≤ 256) × (base + length (now s) ≤ 65536) ⌝ }
@@ -333,7 +333,7 @@ fn read_pair(
                 base + (e0 as u64),
                 table,
                 n,
-                slots,
+                keys,
                 m as u32,
             );
             match q {

@@ -10,3 +10,4 @@ pub mod LastLaws
 pub mod NextLaws
 pub mod TopStage
 pub mod RowedLaws
+pub mod OrderLaws

@@ -7,7 +7,7 @@ use mathlib.Core.Logic.{_⊎_, inl, inr}
 use lib.ListN.{length, getD, set, length-set}
 use lib.Seq.{getD-set-same, getD-set-other}
 use Rattle.boxes.specs.declared.Refusal.{Refusal}
-use Rattle.records.specs.inner.Rows.{RowedTo, Rowed}
+use Rattle.records.specs.inner.Rows.{RowedTo, TargetsRowed}
 use Rattle.reading.specs.declared.FileRead.the-variants.{Is, Refused}
 
 -- a refusal is no reading
@@ -69,7 +69,7 @@ module _ (t u v : List ℕ) (a b c d e f g h : ℕ) (w : u ≡ set
       ∙ getD-set-other t 0 m a 0 (λ q. absurd (omega arith))
 
   -- what holds of the counts that are set holds of the table as read
-  pub head-rowed : RowedTo a d t v → Rowed u v
+  pub head-rowed : RowedTo a d t v → TargetsRowed u v
   head-rowed r j k =
       let i = items-word in
       let n = targets-word in

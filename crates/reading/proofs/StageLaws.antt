@@ -19,7 +19,7 @@ use Rattle.contents.specs.Iloc.{Location}
 use Rattle.contents.specs.Iprp.{IprpContent}
 use Rattle.contents.specs.Iref.{Derivation, targetsIn, references}
 use Rattle.contents.specs.File.{File, referred}
-use Rattle.rules.specs.Places.{firstOf, placesAt}
+use Rattle.rules.specs.Places.{Places, firstOf, placesAt}
 use Rattle.rules.specs.Words.{headWords}
 use Rattle.records.specs.inner.Raw.{rawOf}
 use Rattle.records.specs.inner.Rows.{idAt, idsIn}
@@ -40,13 +40,15 @@ unfolding idsIn
 ids-take t l zero h e = refl
 ids-take t l (suc n) h e = rw (ids-take t l n (omega arith) (λ k q. e k (omega arith)), e n (omega arith)) (sym (take-suc l n 0 h))
 
-pub ids-are : (s : List ℕ) (at n : ℕ) (f : File) (x t : List ℕ) → Before s at n f x t → idsIn t n ≡ idsOf (f .items)
-ids-are s at n f x t b =
-    let c = b .ready .count in
+pub ids-read : (hw : List ℕ) (pl : Places) (x : List ℕ) → length hw ≤ 16 → (n : ℕ) (f : File) (t : List ℕ) → length (f .items) ≡ n →
+    t ≡ rawOf hw pl f ++ x → idsIn t n ≡ idsOf (f .items)
+ids-read hw pl x small n f t c e =
     let l : length (idsOf (f .items)) ≡ length (f .items) = simp length-map in
-    ids-take t (idsOf (f .items)) n (omega arith) (λ k q. ap (λ (u : List ℕ). idAt u k) (b .is) ∙
-    raw-id [] (placesAt at (kids s)) x (omega arith) f k (omega arith))
+    ids-take t (idsOf (f .items)) n (omega arith) (λ k q. ap (λ (u : List ℕ). idAt u k) e ∙ raw-id hw pl x small f k (omega arith))
     ∙ take-all n (idsOf (f .items)) (omega arith)
+
+pub ids-are : (s : List ℕ) (at n : ℕ) (f : File) (x t : List ℕ) → Before s at n f x t → idsIn t n ≡ idsOf (f .items)
+ids-are s at n f x t b = ids-read [] (placesAt at (kids s)) x (omega arith) n f t (b .ready .count) (b .is)
 
 -- After: a refusal
 pub after-refused : (s : List ℕ) (at total : ℕ) (m : Answer File) (r : Refusal) (x u : List ℕ) →

@@ -144,6 +144,7 @@ module _ (s : List ℕ) (at : ℕ) (p : Spot) (i : SpotIs s at iinf (kids s) p) 
     pub list : List Item
     pub before : Before s at n (withItems list) x u
     pub on : fromItems at (kids s) primary ≡ fromLocations at (kids s) primary list
+    pub read : items (at + p .start) (at + p .body) (partAt s p) ≡ ok list
 
   pub iinf-begins : (n : ℕ) (x t u : List ℕ) →
       toldItems (items (at + p .start) (at + p .body) (partAt s p)) ≡ items-read.Items n → t ≡ replicate 11280 0 ++ x →
@@ -159,6 +160,7 @@ module _ (s : List ℕ) (at : ℕ) (p : Spot) (i : SpotIs s at iinf (kids s) p) 
               ready = subst (Ready (withItems (o .0))) (o .2) (items-ready _ _ _ (o .0) q);
             };
         on = items-on at (kids s) primary (o .0) (sym items-same ∙ q);
+        read = q;
       }
 
   pub iinf-after : (n : ℕ) (x u v : List ℕ) (r : FileRead) → Begun n x u →

@@ -13,7 +13,8 @@ ghost use Rattle.contents.specs.File.{File, contentsOf, fileOf};
 ghost use Rattle.rules.specs.Places.{placesAt};
 ghost use Rattle.records.specs.inner.Raw.{unread, rawOf};
 ghost use Rattle.records.specs.inner.Stage.{Kept, withItems, withLocations, withProperties, withNames};
-ghost use Rattle.records.specs.inner.Rows.{Rowed};
+ghost use Rattle.records.specs.inner.Keys.{orderOf, orderPut, Keyed};
+ghost use Rattle.records.specs.inner.Rows.{TargetsRowed, Rowed};
 ghost use Rattle.reading.specs.declared.FileRead.the-variants.{Is};
 ghost use Rattle.reading.specs.inner.Parts.{
   kids,
@@ -111,7 +112,7 @@ fn read_last(
     total: u64,
     primary: ItemId,
     c: Counts,
-    slots: &[u32],
+    keys: &[u64; 512],
 ) -> FileRead
     requires { ⌜ (Standing (now s) spots) × (at + length (now s) ≤ 65536) × (11280 ≤ length (now table)) ×
         (2048 ≤ length (now rows)) × ((f : File) × (x : List ℕ) × LastBefore (now s) at c f x (now table)) ⌝ }
@@ -119,7 +120,7 @@ fn read_last(
         After (now (s .entry)) at total (fromReferences at (kids (now (s .entry))) (primary .0) (f .items)
         (f .locations) (shownOf f)) r x (now (table .exit))) ⌝ }
     ensures { λ _. ⌜ Kept (now (table .entry)) (now (table .exit)) ⌝ }
-    ensures { λ r. ⌜ ((i e : ℕ) → r ≡ Is i e → Rowed (now (table .exit)) (now (rows .exit))) ⌝ }
+    ensures { λ r. ⌜ ((i e : ℕ) → r ≡ Is i e → TargetsRowed (now (table .exit)) (now (rows .exit))) ⌝ }
 {
     let r = spots[5];
     let start = r.start;
@@ -132,7 +133,7 @@ fn read_last(
     let n = c.items;
     let place = (at + start) as u64;
     let base = (at + body) as u64;
-    let t = references::read_references(&s[body..end], place, base, table, rows, n, slots);
+    let t = references::read_references(&s[body..end], place, base, table, rows, n, keys);
     match t {
         ReferencesRead::Refused(f) => FileRead::Refused(f),
         ReferencesRead::Targets(targets) => {
@@ -152,7 +153,7 @@ fn read_iprp(
     total: u64,
     primary: ItemId,
     n: usize,
-    slots: &[u32],
+    keys: &[u64; 512],
     extents: usize,
 ) -> FileRead
     requires { ⌜ (Standing (now s) spots) × (at + length (now s) ≤ 65536) × (11280 ≤ length (now table)) ×
@@ -163,7 +164,7 @@ fn read_iprp(
         After (now (s .entry)) at total (fromShown at (kids (now (s .entry))) (primary .0) is ls) r x
         (now (table .exit))) ⌝ }
     ensures { λ _. ⌜ Kept (now (table .entry)) (now (table .exit)) ⌝ }
-    ensures { λ r. ⌜ ((i e : ℕ) → r ≡ Is i e → Rowed (now (table .exit)) (now (rows .exit))) ⌝ }
+    ensures { λ r. ⌜ ((i e : ℕ) → r ≡ Is i e → TargetsRowed (now (table .exit)) (now (rows .exit))) ⌝ }
 {
     let p = spots[4];
     let start = p.start;
@@ -171,7 +172,7 @@ fn read_iprp(
     let end = p.end;
     let place = (at + start) as u64;
     let base = (at + body) as u64;
-    let t = properties::read_iprp_content(&s[body..end], place, base, table, n, slots);
+    let t = properties::read_iprp_content(&s[body..end], place, base, table, n, keys);
     match t {
         ShownRead::Refused(f) => FileRead::Refused(f),
         ShownRead::Shown {
@@ -185,7 +186,7 @@ fn read_iprp(
                 targets: 0,
                 extents,
             };
-            read_last(s, at, spots, table, rows, total, primary, c, slots)
+            read_last(s, at, spots, table, rows, total, primary, c, keys)
         }
     }
 }
@@ -213,7 +214,7 @@ fn read_iloc(
     total: u64,
     primary: ItemId,
     n: usize,
-    slots: &[u32],
+    keys: &[u64; 512],
 ) -> FileRead
     requires { ⌜ (Standing (now s) spots) × (at + length (now s) ≤ 65536) × (11280 ≤ length (now table)) ×
         (2048 ≤ length (now rows)) × ((is : List Item) × (x : List ℕ) ×
@@ -223,14 +224,14 @@ fn read_iloc(
         After (now (s .entry)) at total (fromLocations at (kids (now (s .entry))) (primary .0) is) r x
         (now (table .exit))) ⌝ }
     ensures { λ _. ⌜ Kept (now (table .entry)) (now (table .exit)) ⌝ }
-    ensures { λ r. ⌜ ((i e : ℕ) → r ≡ Is i e → Rowed (now (table .exit)) (now (rows .exit))) ⌝ }
+    ensures { λ r. ⌜ ((i e : ℕ) → r ≡ Is i e → TargetsRowed (now (table .exit)) (now (rows .exit))) ⌝ }
 {
     let l = spots[3];
     let start = l.start;
     let body = l.body;
     let end = l.end;
     let idat = idat_at(spots, at);
-    let t = locations::read_locations(&s[body..end], (at + start) as u64, table, n, slots, idat);
+    let t = locations::read_locations(&s[body..end], (at + start) as u64, table, n, keys, idat);
     match t {
         LocationsRead::Refused(f) => FileRead::Refused(f),
         LocationsRead::Done(extents) => read_iprp(
@@ -242,9 +243,23 @@ fn read_iloc(
             total,
             primary,
             n,
-            slots,
+            keys,
             extents,
         ),
+    }
+}
+
+// The rows of the n items in rising ID order, behind the rows of the targets.
+fn put_order(keys: &[u64; 512], n: usize, rows: &mut [u32])
+    requires { ⌜ (2304 ≤ length (now rows)) × ((ids : List ℕ) × (length ids ≡ n) × (n ≤ 256) × Keyed ids (now keys)) ⌝ }
+    ensures { λ _. ⌜ ((ids : List ℕ) → length ids ≡ n → Keyed ids (now (keys .entry)) →
+        now (rows .exit) ≡ orderPut (orderOf ids) (now (rows .entry))) ⌝ }
+{
+    let first = records::first_key(keys);
+    let mut k: usize = 0;
+    while k < n {
+        rows[2048 + k] = (keys[first + k] % 256) as u32;
+        k += 1;
     }
 }
 
@@ -259,7 +274,7 @@ fn read_iinf(
     primary: ItemId,
 ) -> FileRead
     requires { ⌜ (Standing (now s) spots) × (at + length (now s) ≤ 65536) × (11280 ≤ length (now table)) ×
-        (2048 ≤ length (now rows)) × ((x : List ℕ) × (now table ≡ replicate 11280 0 ++ x)) ⌝ }
+        (2304 ≤ length (now rows)) × ((x : List ℕ) × (now table ≡ replicate 11280 0 ++ x)) ⌝ }
     ensures { λ r. ⌜ ((x : List ℕ) → (now (table .entry)) ≡ replicate 11280 0 ++ x →
         After (now (s .entry)) at total (fromItems at (kids (now (s .entry))) (primary .0)) r x (now (table .exit))) ⌝ }
     ensures { λ _. ⌜ Kept (now (table .entry)) (now (table .exit)) ⌝ }
@@ -270,17 +285,21 @@ fn read_iinf(
     let body = i.body;
     let end = i.end;
     // Where rows are looked for by their IDs from here on.
-    let mut slots = [0u32; 768];
+    let mut keys = [0u64; 512];
     let t = items::read_items(
         &s[body..end],
         (at + start) as u64,
         (at + body) as u64,
         table,
-        &mut slots,
+        &mut keys,
     );
     match t {
         ItemsRead::Refused(f) => FileRead::Refused(f),
-        ItemsRead::Items(n) => read_iloc(s, at, spots, table, rows, total, primary, n, &slots),
+        ItemsRead::Items(n) => {
+            let r = read_iloc(s, at, spots, table, &mut *rows, total, primary, n, &keys);
+            put_order(&keys, n, rows);
+            r
+        }
     }
 }
 
@@ -294,7 +313,7 @@ fn read_contents(
     total: u64,
 ) -> FileRead
     requires { ⌜ (Standing (now s) spots) × (at + length (now s) ≤ 65536) × (11280 ≤ length (now table)) ×
-        (2048 ≤ length (now rows)) × ((x : List ℕ) × (now table ≡ replicate 11280 0 ++ x)) ⌝ }
+        (2304 ≤ length (now rows)) × ((x : List ℕ) × (now table ≡ replicate 11280 0 ++ x)) ⌝ }
     ensures { λ r. ⌜ ((x : List ℕ) → (now (table .entry)) ≡ replicate 11280 0 ++ x →
         After (now (s .entry)) at total (fromHandler at (kids (now (s .entry)))) r x (now (table .exit))) ⌝ }
     ensures { λ _. ⌜ Kept (now (table .entry)) (now (table .exit)) ⌝ }
@@ -357,7 +376,7 @@ fn read_children(
     rows: &mut [u32],
     total: u64,
 ) -> FileRead
-    requires { ⌜ (at + length (now s) ≤ 65536) × (11280 ≤ length (now table)) × (2048 ≤ length (now rows)) ×
+    requires { ⌜ (at + length (now s) ≤ 65536) × (11280 ≤ length (now table)) × (2304 ≤ length (now rows)) ×
         ((x : List ℕ) × (now table ≡ replicate 11280 0 ++ x)) ⌝ }
     ensures { λ r. ⌜ ((x : List ℕ) → (now (table .entry)) ≡ replicate 11280 0 ++ x →
         After (now (s .entry)) at total (contentsOf place at (now (s .entry))) r x (now (table .exit))) ⌝ }
@@ -390,7 +409,7 @@ fn read_meta(
     rows: &mut [u32],
     total: u64,
 ) -> FileRead
-    requires { ⌜ (at + length (now s) ≤ 65536) × (11280 ≤ length (now table)) × (2048 ≤ length (now rows)) ×
+    requires { ⌜ (at + length (now s) ≤ 65536) × (11280 ≤ length (now table)) × (2304 ≤ length (now rows)) ×
         ((x : List ℕ) × (now table ≡ replicate 11280 0 ++ x)) ⌝ }
     ensures { λ r. ⌜ ((x : List ℕ) → (now (table .entry)) ≡ replicate 11280 0 ++ x →
         After (drop 4 (now (s .entry))) (at + 4) total (fileOf place at (now (s .entry))) r x (now (table .exit))) ⌝ }
@@ -410,7 +429,7 @@ fn read_meta(
 // The file into a table that is all 0.
 fn read_head(head: &[u8], total: u64, table: &mut [u32], rows: &mut [u32]) -> FileRead
     requires { ⌜ (length (now head) ≤ 65536) × (length (now head) ≤ total) × (11280 ≤ length (now table)) ×
-        (2048 ≤ length (now rows)) × ((x : List ℕ) × (now table ≡ replicate 11280 0 ++ x)) ⌝ }
+        (2304 ≤ length (now rows)) × ((x : List ℕ) × (now table ≡ replicate 11280 0 ++ x)) ⌝ }
     ensures { λ r. ⌜ ((x : List ℕ) → (now (table .entry)) ≡ replicate 11280 0 ++ x → ReadLeft total (now (head .entry)) r x (now (table .exit))) ⌝ }
     ensures { λ _. ⌜ Kept (now (table .entry)) (now (table .exit)) ⌝ }
     ensures { λ r. ⌜ ((i e : ℕ) → r ≡ Is i e → Rowed (now (table .exit)) (now (rows .exit))) ⌝ }
@@ -430,9 +449,10 @@ fn read_head(head: &[u8], total: u64, table: &mut [u32], rows: &mut [u32]) -> Fi
 }
 
 // The whole reading. Refusal 1 writes nothing, the others leave the first 11,280 words 0. Where the file is read,
-// `rows` has for each target the row that it names; elsewhere nothing is said of it.
+// `rows` has for each target the row that it names, and from 2,048 on the rows in rising ID order; elsewhere nothing is
+// said of it.
 pub fn read_file(head: &[u8], total: u64, table: &mut [u32], rows: &mut [u32]) -> FileRead
-    requires { ⌜ 2048 ≤ length (now rows) ⌝ }
+    requires { ⌜ 2304 ≤ length (now rows) ⌝ }
     ensures { λ r. ⌜ r ≡ readAnswer (length (now (table .entry))) total (now (head .entry)) ⌝ }
     ensures { λ _. ⌜ now (table .exit) ≡ readWords total (now (head .entry)) (now (table .entry)) ⌝ }
     ensures { λ r. ⌜ ((i e : ℕ) → r ≡ Is i e → Rowed (now (table .exit)) (now (rows .exit))) ⌝ }

@@ -5,4 +5,5 @@ pub mod SaidLaws
 pub mod SetsLaws
 pub mod IdLaws
 pub mod KeptLaws
+pub mod KeyedLaws
 pub mod BoundLaws

@@ -1,3 +1,4 @@
+pub mod Keys
 pub mod Raw
 pub mod Rows
 pub mod Stage

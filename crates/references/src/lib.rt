@@ -62,7 +62,7 @@ fn put_targets(
     table: &mut [u32],
     rows: &mut [u32],
     n: usize,
-    slots: &[u32],
+    keys: &[u64; 512],
     keep: bool,
     used: usize,
 ) -> TargetsPut
@@ -83,7 +83,7 @@ fn put_targets(
             return TargetsPut::Refused(Refusal { number: 8, place });
         }
         let id = fields::be_id(s, at, w);
-        let f = records::row_of(&*table, n, ItemId(id), ItemRow(hope), slots);
+        let f = records::row_of(&*table, n, ItemId(id), ItemRow(hope), keys);
         match f {
             FoundRow::Nothing => return TargetsPut::Refused(Refusal { number: 11, place }),
             FoundRow::At(row) => {
@@ -134,7 +134,7 @@ fn put_reference(
     table: &mut [u32],
     rows: &mut [u32],
     n: usize,
-    slots: &[u32],
+    keys: &[u64; 512],
     used: usize,
 ) -> ReferencesRead
     requires { ⌜ (11280 ≤ length (now table)) × (2048 ≤ length (now rows)) × (n ≤ 256) × ((w ≡ 2) ⊎ (w ≡ 4)) × (used ≤ 2048) ⌝ }
@@ -147,20 +147,14 @@ fn put_reference(
     if s.len() < w {
         return ReferencesRead::Refused(Refusal { number: 8, place });
     }
-    let f = records::row_of(
-        &*table,
-        n,
-        ItemId(fields::be_id(s, 0, w)),
-        ItemRow(0),
-        slots,
-    );
+    let f = records::row_away(&*table, n, ItemId(fields::be_id(s, 0, w)), keys);
     match f {
         FoundRow::Nothing => ReferencesRead::Refused(Refusal { number: 11, place }),
         FoundRow::At(row) => {
             if is_second(&*table, derives, row) {
                 return ReferencesRead::Refused(Refusal { number: 10, place });
             }
-            put_counted(s, derives, w, place, table, rows, n, slots, row, used)
+            put_counted(s, derives, w, place, table, rows, n, keys, row, used)
         }
     }
 }
@@ -174,7 +168,7 @@ fn put_counted(
     table: &mut [u32],
     rows: &mut [u32],
     n: usize,
-    slots: &[u32],
+    keys: &[u64; 512],
     row: ItemRow,
     used: usize,
 ) -> ReferencesRead
@@ -192,9 +186,9 @@ fn put_counted(
     }
     let k = fields::be16(s, w) as usize;
     if derives {
-        return put_derivation(s, w, k, place, table, rows, n, slots, row, used);
+        return put_derivation(s, w, k, place, table, rows, n, keys, row, used);
     }
-    let t = put_targets(s, w + 2, w, k, place, table, rows, n, slots, false, used);
+    let t = put_targets(s, w + 2, w, k, place, table, rows, n, keys, false, used);
     match t {
         TargetsPut::Refused(r) => ReferencesRead::Refused(r),
         TargetsPut::Done => ReferencesRead::Targets(used),
@@ -210,7 +204,7 @@ fn put_derivation(
     table: &mut [u32],
     rows: &mut [u32],
     n: usize,
-    slots: &[u32],
+    keys: &[u64; 512],
     row: ItemRow,
     used: usize,
 ) -> ReferencesRead
@@ -229,7 +223,7 @@ fn put_derivation(
     if 2048 < used + k {
         return ReferencesRead::Refused(Refusal { number: 9, place });
     }
-    let t = put_targets(s, w + 2, w, k, place, table, rows, n, slots, true, used);
+    let t = put_targets(s, w + 2, w, k, place, table, rows, n, keys, true, used);
     match t {
         TargetsPut::Refused(r) => ReferencesRead::Refused(r),
         TargetsPut::Done => {
@@ -257,7 +251,7 @@ fn put_references(
     table: &mut [u32],
     rows: &mut [u32],
     n: usize,
-    slots: &[u32],
+    keys: &[u64; 512],
 ) -> ReferencesRead
     requires { ⌜ (11280 ≤ length (now table)) × (2048 ≤ length (now rows)) × (n ≤ 256) ×
         (base + length (now s) < 18446744073709551616) × (4 ≤ length (now s)) × ((w ≡ 2) ⊎ (w ≡ 4)) ⌝ }
@@ -275,7 +269,7 @@ fn put_references(
         match c {
             Child::Whole { kind, body, end } => {
                 let d = is_dimg(kind);
-                let r = put_reference(&s[body..end], d, w, here, table, rows, n, slots, used);
+                let r = put_reference(&s[body..end], d, w, here, table, rows, n, keys, used);
                 match r {
                     ReferencesRead::Refused(f) => return ReferencesRead::Refused(f),
                     ReferencesRead::Targets(k) => {
@@ -301,7 +295,7 @@ pub fn read_references(
     table: &mut [u32],
     rows: &mut [u32],
     n: usize,
-    slots: &[u32],
+    keys: &[u64; 512],
 ) -> ReferencesRead
     requires { ⌜ (11280 ≤ length (now table)) × (2048 ≤ length (now rows)) × (n ≤ 256) × (base + length (now s) < 18446744073709551616) ⌝ }
     requires { ⌜ Distinct (idsIn (now table) n) × ((k : ℕ) → k < n → getD (now table) (16 + 16 * k + 6) 0 ≡ 0) ⌝ }
@@ -314,9 +308,9 @@ pub fn read_references(
         FullRead::Refused(r) => ReferencesRead::Refused(r),
         FullRead::Is { version, flags: _ } => {
             if version == 0 {
-                return put_references(s, 2, place, base, table, rows, n, slots);
+                return put_references(s, 2, place, base, table, rows, n, keys);
             }
-            put_references(s, 4, place, base, table, rows, n, slots)
+            put_references(s, 4, place, base, table, rows, n, keys)
         }
     }
 }

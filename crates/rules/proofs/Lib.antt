@@ -3,3 +3,4 @@ pub mod DerivationLaws
 pub mod SceneLaws
 pub mod ListedLaws
 pub mod SameSayLaws
+pub mod OrderLaws

@@ -4,6 +4,7 @@
 --   opened n total head            the same for a table of n words that is lent: 1 first
 --   listed, pictured f id          the row of an item, of a picture
 --   after total head table         what any of the questions leaves in the table
+--   fileAfter total head table     the same in the order of `iinf`, as document 01 alone has it
 use Prim.Native.Nat.{ℕ}
 use mathlib.Core.List.{List, _++_}
 use lib.ListN.{length, replicate, drop}
@@ -16,7 +17,7 @@ use Rattle.contents.specs.Iinf.{Item, idsOf}
 use Rattle.contents.specs.File.{File, readFile}
 use Rattle.rules.specs.Joined.{rowOf, itemAt}
 use Rattle.rules.specs.Rules.{judged}
-use Rattle.rules.specs.Words.{tableWords, wordsOf}
+use Rattle.rules.specs.Words.{tableWords, fileWords, wordsOf}
 
 unfoldable pub accepted : ℕ → List ℕ → Answer File
 accepted total head = do
@@ -40,10 +41,17 @@ pictured f id = do
   ok r
 
 -- "Refusal 1 writes nothing. Refusals 2 to 20 set the table's first 11,280 words to 0. With 21 to 25 the table is the
--- file's. .. Words past 11,280 are never written."
-unfoldable pub leftBy : ℕ → List ℕ → List ℕ → Answer File → List ℕ
-leftBy total head table (ok f) = wordsOf total head f ++ drop tableWords table
-leftBy total head table (refuse n p) = replicate tableWords 0 ++ drop tableWords table
+-- file's. .. Words past 11,280 are never written.", the file's words being laid out in one way or another
+unfoldable pub leftBy : (ℕ → List ℕ → File → List ℕ) → ℕ → List ℕ → List ℕ → Answer File → List ℕ
+leftBy words total head table (ok f) = words total head f ++ drop tableWords table
+leftBy words total head table (refuse n p) = replicate tableWords 0 ++ drop tableWords table
 
-unfoldable pub after : ℕ → List ℕ → List ℕ → List ℕ
-after total head table = pick (leb tableWords (length table)) (leftBy total head table (accepted total head)) table
+unfoldable pub afterBy : (ℕ → List ℕ → File → List ℕ) → ℕ → List ℕ → List ℕ → List ℕ
+afterBy words total head table = pick (leb tableWords (length table)) (leftBy words total head table (accepted total head)) table
+
+abbrev pub after : ℕ → List ℕ → List ℕ → List ℕ
+after = afterBy wordsOf
+
+-- the same by document 01 alone, the records in the order of `iinf`
+abbrev pub fileAfter : ℕ → List ℕ → List ℕ → List ℕ
+fileAfter = afterBy fileWords

@@ -1,6 +1,9 @@
--- Table words: document 01, "Table words". The table is the file's spelling in 32-bit words; "Order is file order (items: `iinf`)".
+-- Table words: document 01, "Table words", and document 02, Q-6. The table is the file's spelling in 32-bit words; "Order
+-- is file order (items: `iinf`)", until Q-6, from which on "the item records [are] in rising ID order".
 --   tableWords       how many words the table of a file has
 --   wordsOf total head f     the words of an accepted file; what a call leaves of them is `after`, in Opening.antt
+--   fileWords total head f   the same as document 01 alone asks for them, all in file order: what Q-6 rearranges
+--   byId items               the items in rising ID order, each with its place in `iinf`
 use Prim.Native.Nat.{ℕ, zero, suc, _+_, _*_, _-_, _/_, _%_}
 use mathlib.Core.List.{List, [], _∷_, _++_, map}
 use mathlib.Core.Bool.{Bool, true, false}
@@ -71,18 +74,46 @@ sizeWords s r i =
     (pictureAt s r .declared .wide ∷ pictureAt s r .declared .high ∷ outputOf (pictureAt s r) .wide ∷ outputOf (pictureAt s r) .high ∷ depth s r ∷ [])
     (replicate 5 0)
 
--- "ID, type, hidden, first association, count, first target, count, first extent, count, method, reconstructed width, height, output width, height, depth, 0"
-unfoldable pub itemWords : File → Scene → ℕ → Item → List ℕ
-itemWords f s r i =
+-- "ID, type, hidden, first association, count, first target, count, first extent, count, method, reconstructed width,
+-- height, output width, height, depth", and a sixteenth word
+unfoldable pub itemWords : ℕ → File → Scene → ℕ → Item → List ℕ
+itemWords sixteenth f s r i =
     (i .id ∷ i .type ∷ i .hidden ∷ [])
     ++ (span (i .id) (namedGroups (f .associations)) (length (associationsOf f (i .id)))
     ++ (span (i .id) (derivedGroups (f .derivations)) (length (targetsOf f (i .id)))
     ++ (span (i .id) (locatedGroups (f .locations)) (length (locationOf f (i .id) .extents))
-    ++ ((locationOf f (i .id) .method ∷ []) ++ (sizeWords s r i ++ (0 ∷ []))))))
+    ++ ((locationOf f (i .id) .method ∷ []) ++ (sizeWords s r i ++ (sixteenth ∷ []))))))
 
+-- document 01's records, in the order of `iinf`, the sixteenth word 0
 unfoldable pub recordsFrom : File → Scene → ℕ → List Item → List ℕ
 recordsFrom f s r [] = []
-recordsFrom f s r (i ∷ is) = itemWords f s r i ++ recordsFrom f s (suc r) is
+recordsFrom f s r (i ∷ is) = itemWords 0 f s r i ++ recordsFrom f s (suc r) is
+
+-- Q-6: "each item's place in `iinf` (from 0)"
+pub record Filed : Type 0 where
+  pub item : Item
+  pub place : ℕ
+
+unfoldable pub filedFrom : ℕ → List Item → List Filed
+filedFrom k [] = []
+filedFrom k (i ∷ is) = record { item = i; place = k } ∷ filedFrom (suc k) is
+
+-- Q-6: "in rising ID order": an item among such, behind those whose IDs are no larger
+unfoldable pub amongById : Filed → List Filed → List Filed
+amongById p [] = p ∷ []
+amongById p (q ∷ qs) = pick (leb (q .item .id) (p .item .id)) (q ∷ amongById p qs) (p ∷ q ∷ qs)
+
+-- one after the other, each among those before it
+unfoldable pub sortedBehind : List Filed → List Filed → List Filed
+sortedBehind ps [] = ps
+sortedBehind ps (q ∷ qs) = sortedBehind (amongById q ps) qs
+
+abbrev pub byId : List Item → List Filed
+byId is = sortedBehind [] (filedFrom 0 is)
+
+-- Q-6: "Keep the item records in rising ID order, and put each item's place in `iinf` (from 0) in the record's sixteenth word."
+abbrev pub recordsById : File → Scene → List Filed → List ℕ
+recordsById f s ps = joinAll (λ (p : Filed). itemWords (p .place) f s (p .place) (p .item)) ps
 
 -- "type, offset, size, 0"
 unfoldable pub propertiesFrom : ℕ → List (List ℕ) → List ℕ
@@ -106,11 +137,17 @@ headWords total f =
 
 -- "From 16, 256 item records of 16 words"; "From 4,112, 256 properties of 4"; "From 5,136, 2,048 associations"; "From
 -- 7,184, 2,048 targets, as item IDs"; "From 9,232, 512 extents of 4"
-unfoldable pub wordsOf : ℕ → List ℕ → File → List ℕ
-wordsOf total head f =
+unfoldable pub wordsWith : List ℕ → ℕ → List ℕ → File → List ℕ
+wordsWith records total head f =
     region 16 (headWords total f)
-    ++ (region 4096 (recordsFrom f (sceneOf total head f) 0 (f .items))
+    ++ (region 4096 records
     ++ (region 1024 (propertiesFrom (placesIn total head .properties) (f .properties))
     ++ (region 2048 (joinAll (λ (n : IpmaEntry). map (λ (a : Association). associationWord a) (n .list)) (f .associations))
     ++ (region 2048 (joinAll (λ (d : Derivation). d .targets) (f .derivations))
     ++ region 2048 (joinAll (λ (l : Location). joinAll (λ (e : Extent). extentWords (placesIn total head) l e) (l .extents)) (f .locations))))))
+
+abbrev pub fileWords : ℕ → List ℕ → File → List ℕ
+fileWords total head f = wordsWith (recordsFrom f (sceneOf total head f) 0 (f .items)) total head f
+
+abbrev pub wordsOf : ℕ → List ℕ → File → List ℕ
+wordsOf total head f = wordsWith (recordsById f (sceneOf total head f) (byId (f .items))) total head f

@@ -21,7 +21,7 @@ use Rattle.pictures.specs.Depth.{depth}
 use Rattle.rules.specs.Joined.{boxesOf, itemAt}
 use Rattle.rules.specs.Places.{Places, placesIn}
 use Rattle.rules.specs.Derivations.{declaredIn, sceneOf}
-use Rattle.rules.specs.Words.{headWords, sizeWords, wordsOf}
+use Rattle.rules.specs.Words.{headWords, sizeWords, fileWords}
 use Rattle.rules.proofs.SceneLaws.{declared-at, turns-at}
 use Rattle.records.specs.inner.Raw.{rawOf}
 use Rattle.records.proofs.KeptLaws.{drop-sets}
@@ -105,7 +105,7 @@ module _ (head depths t : List ℕ) where
 
     pub filled-done : k ≡ n → (total : ℕ) (f : File) (x : List ℕ) → total < 18446744073709551616 →
         readFile total head ≡ ok f → AllPlaced total head f → t ≡ rawOf (headWords total f) (placesIn total head) f ++ x
-        → ((r : ℕ) → r < length (f .items) → getD depths r 0 ≡ depth (sceneOf total head f) r) → u ≡ wordsOf total head f ++ x
+        → ((r : ℕ) → r < length (f .items) → getD depths r 0 ≡ depth (sceneOf total head f) r) → u ≡ fileWords total head f ++ x
     filled-done z total f x few e placed q g =
         let w = read-here total head f x t e q in
         h total f x e q g

@@ -18,7 +18,7 @@ ghost use Rattle.rules.specs.Joined.{itemAt};
 ghost use Rattle.rules.specs.Places.{Places, placesIn};
 ghost use Rattle.rules.specs.Derivations.{sceneOf};
 ghost use Rattle.rules.specs.Rules.{inOrder, rule15-29-16};
-ghost use Rattle.rules.specs.Words.{headWords, wordsOf};
+ghost use Rattle.rules.specs.Words.{headWords, fileWords};
 ghost use Rattle.records.specs.inner.Raw.{rawOf};
 ghost use Rattle.views.specs.inner.View.{TableOf, SizesAre, AllPlaced, recordWord, idOf};
 ghost use Rattle.views.specs.inner.Told.{faultOf};
@@ -121,7 +121,7 @@ pub fn fill_sizes(head: &[u8], table: &mut [u32], depths: &[u32]) -> Filled
         readFile total (now (head .entry)) ≡ ok f → AllPlaced total (now (head .entry)) f →
         now (table .entry) ≡ rawOf (headWords total f) (placesIn total (now (head .entry))) f ++ x →
         ((r : ℕ) → r < length (f .items) → getD (now (depths .entry)) r 0 ≡ depth (sceneOf total (now (head .entry)) f)
-        r) → r ≡ Filled.All → now (table .exit) ≡ wordsOf total (now (head .entry)) f ++ x) ⌝ }
+        r) → r ≡ Filled.All → now (table .exit) ≡ fileWords total (now (head .entry)) f ++ x) ⌝ }
     ensures { λ _. ⌜ drop 11280 (now (table .exit)) ≡ drop 11280 (now (table .entry)) ⌝ }
 {
     if table.len() < Table::WORDS {

@@ -7,3 +7,4 @@ pub mod PointsLaws
 pub mod Again
 pub mod Share
 pub mod LentArray
+pub mod ArrangedLaws

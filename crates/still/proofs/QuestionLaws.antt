@@ -8,7 +8,7 @@ use Rattle.boxes.specs.Answer.{ok, _>>=_}
 use Rattle.boxes.specs.declared.Refusal.{Refusal}
 use Rattle.contents.specs.File.{File, readFile}
 use Rattle.rules.specs.Derivations.{sceneOf}
-use Rattle.rules.specs.Opening.{opened, after}
+use Rattle.rules.specs.Opening.{opened, fileAfter}
 use Rattle.questions.specs.Questions.{verdictIn, verdict, sizeIn, size}
 use Rattle.rules.proofs.RuleLaws.{judged-each, accepted-both}
 use Rattle.rules.proofs.SceneLaws.{accepted-scene}
@@ -44,7 +44,7 @@ module _ (total : ℕ) (head t : List ℕ) where
 
   -- its table shows all that a trace needs
   pub file-shown : total < 18446744073709551616 → (f : File) → opened (length t) total head ≡ ok f → (u : List ℕ) →
-      u ≡ after total head t → (rows : List ℕ) (n : ℕ) → length rows ≡ n → 2048 ≤ n →
+      u ≡ fileAfter total head t → (rows : List ℕ) (n : ℕ) → length rows ≡ n → 2048 ≤ n →
       (readFile total head ≡ ok f → Resolved u rows f) → Shown u rows head total f
   file-shown few f o u a rows n e many found =
       let k = file-accepted total head t few f o u a in

@@ -2,6 +2,7 @@
 -- every word that is left. The contracts cite these.
 --   VerdictGiven, SizeGiven, TraceGiven, SourcesGiven, OrientationGiven, AskedGiven, PropertyGiven, and TransformsGiven,
 --   which reads no file;   PartPlaced, where a part that is returned lies;   PointsGiven, with all records
+--   VerdictBy, .. by any layout of the table that is left: `left-by total head table`
 -- In each, r is what is returned, `left` the table afterwards, and `list` what was lent beside it, before and after,
 -- and `told` the two numbers that carry a refusal.
 use Prim.Native.Nat.{ℕ}
@@ -32,50 +33,79 @@ use Rattle.seam.specs.Points.{points, singleTrace, recordsAfter, toldPointsFill
 use Rattle.seam.specs.Numbers.{numbersAfter}
 use Rattle.still.specs.Told.{indexOf, toldPart, toldFault}
 
-module _ (head : List ℕ) (total : ℕ) (table : List ℕ) where
-  abbrev pub VerdictGiven : FileVerdict → List ℕ → Type 0
-  VerdictGiven r left = (r ≡ toldVerdict (Q.verdict (length table) total head)) × (left ≡ after total head table)
+-- The promises, by what a call leaves in the table. (Q-6 lays its records out anew: crates/demands/specs/Same.antt has both.)
+module _ (left-by : ℕ → List ℕ → List ℕ → List ℕ) (head : List ℕ) (total : ℕ) (table : List ℕ) where
+  abbrev pub VerdictBy : FileVerdict → List ℕ → Type 0
+  VerdictBy r left = (r ≡ toldVerdict (Q.verdict (length table) total head)) × (left ≡ left-by total head table)
 
-  abbrev pub SizeGiven : ℕ → Sized → List ℕ → Type 0
-  SizeGiven id r left = (r ≡ toldSized (Q.size (length table) total head id)) × (left ≡ after total head table)
+  abbrev pub SizeBy : ℕ → Sized → List ℕ → Type 0
+  SizeBy id r left = (r ≡ toldSized (Q.size (length table) total head id)) × (left ≡ left-by total head table)
 
-  abbrev pub TraceGiven : ℕ → Point → Traced → List ℕ → Type 0
-  TraceGiven id p r left = (r ≡ toldTraced (Q.trace (length table) total head id p)) × (left ≡ after total head table)
+  abbrev pub TraceBy : ℕ → Point → Traced → List ℕ → Type 0
+  TraceBy id p r left = (r ≡ toldTraced (Q.trace (length table) total head id p)) × (left ≡ left-by total head table)
 
-  abbrev pub SourcesGiven : ℕ → List ℕ → Listed → List ℕ → List ℕ → Type 0
-  SourcesGiven id list r list-left left =
+  abbrev pub SourcesBy : ℕ → List ℕ → Listed → List ℕ → List ℕ → Type 0
+  SourcesBy id list r list-left left =
       (r ≡ toldListed (Q.sources (length table) total head id (length list)))
-      × ((list-left ≡ listAfter (Q.sources (length table) total head id (length list)) list) × (left ≡ after total head table))
+      × ((list-left ≡ listAfter (Q.sources (length table) total head id (length list)) list) × (left ≡ left-by total head table))
 
-  abbrev pub OrientationGiven : ℕ → Oriented → List ℕ → Type 0
-  OrientationGiven id r left = (r ≡ toldOriented (orientation (length table) total head id)) × (left ≡ after total head table)
+  abbrev pub OrientationBy : ℕ → Oriented → List ℕ → Type 0
+  OrientationBy id r left = (r ≡ toldOriented (orientation (length table) total head id)) × (left ≡ left-by total head table)
 
-  abbrev pub AskedGiven : ℕ → ℕ → PropertyAsked → List ℕ → Type 0
-  AskedGiven id k r left = (r ≡ toldAsked (indexOf (length table) total head id k)) × (left ≡ after total head table)
+  abbrev pub AskedBy : ℕ → ℕ → PropertyAsked → List ℕ → Type 0
+  AskedBy id k r left = (r ≡ toldAsked (indexOf (length table) total head id k)) × (left ≡ left-by total head table)
 
-  abbrev pub PropertyGiven : ℕ → ℕ → List ℕ → List ℕ → List ℕ → Type 0
-  PropertyGiven id k part told left =
+  abbrev pub PropertyBy : ℕ → ℕ → List ℕ → List ℕ → List ℕ → Type 0
+  PropertyBy id k part told left =
       (part ≡ toldPart (Q.property (length table) total head id k))
-      × ((told ≡ toldFault (Q.property (length table) total head id k)) × (left ≡ after total head table))
+      × ((told ≡ toldFault (Q.property (length table) total head id k)) × (left ≡ left-by total head table))
 
-  -- "as a part of the head": where the head points to and where the part does. It is the box that was asked for, not a
-  -- like one that lies elsewhere in the head. (Of an empty part nothing is said.)
-  abbrev pub PartPlaced : ℕ × ℕ → ℕ × ℕ → ℕ → ℕ → Type 0
-  PartPlaced base place id k = (p : Q.Part) → Q.property (length table) total head id k ≡ ok p → (p .bytes ≡ [] → ⊥) →
-      LiesAt base (p .offset) place
-
-  abbrev pub PointsGiven : ℕ → List PointRecord → PointsFilled → List PointRecord → List ℕ → Type 0
-  PointsGiven id records r records-left left =
+  abbrev pub PointsBy : ℕ → List PointRecord → PointsFilled → List PointRecord → List ℕ → Type 0
+  PointsBy id records r records-left left =
       (r ≡ toldPointsFilled (points (length table) total head id (length records)))
       × ((records-left ≡ recordsAfter (points (length table) total head id (length records)) (singleTrace (length table) total head id) records)
-      × (left ≡ after total head table))
+      × (left ≡ left-by total head table))
 
   -- the same with records of nine numbers
-  abbrev pub PointNumbersGiven : ℕ → List (List ℕ) → PointsFilled → List (List ℕ) → List ℕ → Type 0
-  PointNumbersGiven id records r records-left left =
+  abbrev pub PointNumbersBy : ℕ → List (List ℕ) → PointsFilled → List (List ℕ) → List ℕ → Type 0
+  PointNumbersBy id records r records-left left =
       (r ≡ toldPointsFilled (points (length table) total head id (length records)))
       × ((records-left ≡ numbersAfter (points (length table) total head id (length records)) (Q.trace (length table) total head id) records)
-      × (left ≡ after total head table))
+      × (left ≡ left-by total head table))
+
+-- The promises of the functions.
+abbrev pub VerdictGiven : List ℕ → ℕ → List ℕ → FileVerdict → List ℕ → Type 0
+VerdictGiven = VerdictBy after
+
+abbrev pub SizeGiven : List ℕ → ℕ → List ℕ → ℕ → Sized → List ℕ → Type 0
+SizeGiven = SizeBy after
+
+abbrev pub TraceGiven : List ℕ → ℕ → List ℕ → ℕ → Point → Traced → List ℕ → Type 0
+TraceGiven = TraceBy after
+
+abbrev pub SourcesGiven : List ℕ → ℕ → List ℕ → ℕ → List ℕ → Listed → List ℕ → List ℕ → Type 0
+SourcesGiven = SourcesBy after
+
+abbrev pub OrientationGiven : List ℕ → ℕ → List ℕ → ℕ → Oriented → List ℕ → Type 0
+OrientationGiven = OrientationBy after
+
+abbrev pub AskedGiven : List ℕ → ℕ → List ℕ → ℕ → ℕ → PropertyAsked → List ℕ → Type 0
+AskedGiven = AskedBy after
+
+abbrev pub PropertyGiven : List ℕ → ℕ → List ℕ → ℕ → ℕ → List ℕ → List ℕ → List ℕ → Type 0
+PropertyGiven = PropertyBy after
+
+-- "as a part of the head": where the head points to and where the part does. It is the box that was asked for, not a
+-- like one that lies elsewhere in the head. (Of an empty part nothing is said.)
+abbrev pub PartPlaced : List ℕ → ℕ → List ℕ → ℕ × ℕ → ℕ × ℕ → ℕ → ℕ → Type 0
+PartPlaced head total table base place id k =
+    (p : Q.Part) → Q.property (length table) total head id k ≡ ok p → (p .bytes ≡ [] → ⊥) → LiesAt base (p .offset) place
+
+abbrev pub PointsGiven : List ℕ → ℕ → List ℕ → ℕ → List PointRecord → PointsFilled → List PointRecord → List ℕ → Type 0
+PointsGiven = PointsBy after
+
+abbrev pub PointNumbersGiven : List ℕ → ℕ → List ℕ → ℕ → List (List ℕ) → PointsFilled → List (List ℕ) → List ℕ → Type 0
+PointNumbersGiven = PointNumbersBy after
 
 abbrev pub TransformsGiven : ℕ → TransformList → Type 0
 TransformsGiven n r = r ≡ toldTransforms (transformsIn n)

@@ -5,7 +5,7 @@ ghost use mathlib.Core.Path.{_≡_};
 ghost use mathlib.Core.Logic.{_⊎_};
 ghost use Prim.Native.Nat.{_≤_};
 ghost use lib.ListN.{length};
-ghost use Rattle.rules.specs.Opening.{after};
+ghost use Rattle.rules.specs.Opening.{fileAfter};
 ghost use Rattle.seam.specs.Points as Points;
 ghost use Rattle.seam.specs.inner.Hand.{AtHand, countOf};
 ghost use Rattle.still.specs.Given.{
@@ -21,6 +21,7 @@ ghost use Rattle.still.specs.Given.{
   PointsGiven,
   PointNumbersGiven,
 };
+ghost use Rattle.still.specs.inner.Read.{OrderGiven, AskedRead, PropertyRead};
 use asked::FileVerdict;
 use asked::PropertyAsked;
 use asked::Sized;
@@ -38,34 +39,42 @@ use traced::Traced;
 pub fn verdict(head: &[u8], total: u64, table: &mut [u32]) -> FileVerdict
     ensures { λ r. ⌜ VerdictGiven (now (head .entry)) total (now (table .entry)) r (now (table .exit)) ⌝ }
 {
-    let o = opening::open_file(head, total, table);
-    match o {
+    let mut rows = [0u32; 2304];
+    let o = opening::open_rows(head, total, &mut *table, &mut rows);
+    let answer = match o {
         Opened::Refused(f) => FileVerdict::Refused(f),
         Opened::Accepted => asked::verdict_in(&*table),
-    }
+    };
+    arranged::arrange(table, &rows);
+    answer
 }
 
 // Reconstructed and output width and height, and the depth, of an item.
 pub fn size(head: &[u8], total: u64, table: &mut [u32], id: ItemId) -> Sized
     ensures { λ r. ⌜ SizeGiven (now (head .entry)) total (now (table .entry)) (id .0) r (now (table .exit)) ⌝ }
 {
-    let o = opening::open_file(head, total, table);
-    match o {
+    let mut rows = [0u32; 2304];
+    let o = opening::open_rows(head, total, &mut *table, &mut rows);
+    let answer = match o {
         Opened::Refused(f) => Sized::Refused(f),
         Opened::Accepted => asked::size_in(&*table, id),
-    }
+    };
+    arranged::arrange(table, &rows);
+    answer
 }
 
 // Pixel or fill, item ID, x and y there, and the items passed, for the output pixel p of an item.
 pub fn trace(head: &[u8], total: u64, table: &mut [u32], id: ItemId, p: Point) -> Traced
     ensures { λ r. ⌜ TraceGiven (now (head .entry)) total (now (table .entry)) (id .0) p r (now (table .exit)) ⌝ }
 {
-    let mut rows = [0u32; 2048];
-    let o = opening::open_rows(head, total, table, &mut rows);
-    match o {
+    let mut rows = [0u32; 2304];
+    let o = opening::open_rows(head, total, &mut *table, &mut rows);
+    let answer = match o {
         Opened::Refused(f) => Traced::Refused(f),
         Opened::Accepted => traced::trace_in(head, &*table, &rows, id, p),
-    }
+    };
+    arranged::arrange(table, &rows);
+    answer
 }
 
 // The same with records of nine numbers, as C lends them.
@@ -79,35 +88,42 @@ pub fn point_numbers(
     ensures { λ r. ⌜ PointNumbersGiven (now (head .entry)) total (now (table .entry)) (id .0) (now (points .entry)) r
         (now (points .exit)) (now (table .exit)) ⌝ }
 {
-    let mut rows = [0u32; 2048];
-    let o = opening::open_rows(head, total, table, &mut rows);
-    match o {
+    let mut rows = [0u32; 2304];
+    let o = opening::open_rows(head, total, &mut *table, &mut rows);
+    let answer = match o {
         Opened::Refused(f) => PointsFilled::Refused(f),
         Opened::Accepted => seam::numbers_in(head, &*table, &rows, id, points),
-    }
+    };
+    arranged::arrange(table, &rows);
+    answer
 }
 
 // The IDs of all coded items that an item needs, each once, in table order, into a lent list.
 pub fn sources(head: &[u8], total: u64, table: &mut [u32], id: ItemId, list: &mut [u32]) -> Listed
     ensures { λ r. ⌜ SourcesGiven (now (head .entry)) total (now (table .entry)) (id .0) (now (list .entry)) r (now (list .exit)) (now (table .exit)) ⌝ }
 {
-    let mut rows = [0u32; 2048];
-    let o = opening::open_rows(head, total, table, &mut rows);
-    match o {
+    let mut rows = [0u32; 2304];
+    let o = opening::open_rows(head, total, &mut *table, &mut rows);
+    let answer = match o {
         Opened::Refused(f) => Listed::Refused(f),
         Opened::Accepted => sourced::sources_in(&*table, &rows, id, list),
-    }
+    };
+    arranged::arrange(table, &rows);
+    answer
 }
 
 // The number of 1 to 8 that says what the transforms of an item do.
 pub fn orientation(head: &[u8], total: u64, table: &mut [u32], id: ItemId) -> Oriented
     ensures { λ r. ⌜ OrientationGiven (now (head .entry)) total (now (table .entry)) (id .0) r (now (table .exit)) ⌝ }
 {
-    let o = opening::open_file(head, total, table);
-    match o {
+    let mut rows = [0u32; 2304];
+    let o = opening::open_rows(head, total, &mut *table, &mut rows);
+    let answer = match o {
         Opened::Refused(f) => Oriented::Refused(f),
         Opened::Accepted => facing::orientation_in(head, &*table, id),
-    }
+    };
+    arranged::arrange(table, &rows);
+    answer
 }
 
 // The shortest list of transforms that does what an orientation says: 27 where it is none of 1 to 8. No file is read.
@@ -115,6 +131,26 @@ pub fn transforms(orientation: u32) -> TransformList
     ensures { λ r. ⌜ TransformsGiven orientation r ⌝ }
 {
     facing::transforms_for(orientation)
+}
+
+// Which property is asked for, the records still in the order of `iinf`.
+fn index_read(
+    head: &[u8],
+    total: u64,
+    table: &mut [u32],
+    rows: &mut [u32],
+    id: ItemId,
+    k: u32,
+) -> PropertyAsked
+    requires { ⌜ 2304 ≤ length (now rows) ⌝ }
+    ensures { λ r. ⌜ AskedRead (now (head .entry)) total (now (table .entry)) (id .0) k r (now (table .exit)) ⌝ }
+    ensures { λ r. ⌜ OrderGiven (now (head .entry)) total (now (table .entry)) (now (rows .exit)) ⌝ }
+{
+    let o = opening::open_rows(head, total, table, rows);
+    match o {
+        Opened::Refused(f) => PropertyAsked::Refused(f),
+        Opened::Accepted => asked::property_index(&*table, id, k),
+    }
 }
 
 // Which property is asked for, of any file.
@@ -127,10 +163,38 @@ pub fn property_asked(
 ) -> PropertyAsked
     ensures { λ r. ⌜ AskedGiven (now (head .entry)) total (now (table .entry)) (id .0) k r (now (table .exit)) ⌝ }
 {
-    let o = opening::open_file(head, total, table);
-    match o {
-        Opened::Refused(f) => PropertyAsked::Refused(f),
-        Opened::Accepted => asked::property_index(&*table, id, k),
+    let mut rows = [0u32; 2304];
+    let answer = index_read(head, total, &mut *table, &mut rows, id, k);
+    arranged::arrange(table, &rows);
+    answer
+}
+
+// The property box of an item, the records still in the order of `iinf`.
+fn part_read<'a>(
+    head: &'a [u8],
+    total: u64,
+    table: &mut [u32],
+    rows: &mut [u32],
+    id: ItemId,
+    k: u32,
+    told: &mut [u64; 2],
+) -> &'a [u8]
+    requires { ⌜ 2304 ≤ length (now rows) ⌝ }
+    ensures { λ r. ⌜ PropertyRead (now (head .entry)) total (now (table .entry)) (id .0) k (now r) (now (told .exit))
+        (now (table .exit)) ⌝ }
+    ensures { λ r. ⌜ PartPlaced (now (head .entry)) total (now (table .entry)) (head .entry .ptr) (r .ptr) (id .0) k ⌝ }
+    ensures { λ r. ⌜ OrderGiven (now (head .entry)) total (now (table .entry)) (now (rows .exit)) ⌝ }
+{
+    let a = index_read(head, total, &mut *table, rows, id, k);
+    match a {
+        PropertyAsked::Refused(f) => {
+            *told = [f.number as u64, f.place];
+            &head[..0]
+        }
+        PropertyAsked::Is(index) => {
+            *told = [0, 0];
+            views::property_box(head, &*table, index)
+        }
     }
 }
 
@@ -148,17 +212,10 @@ pub fn property<'a>(
         (now (table .exit)) ⌝ }
     ensures { λ r. ⌜ PartPlaced (now (head .entry)) total (now (table .entry)) (head .entry .ptr) (r .ptr) (id .0) k ⌝ }
 {
-    let a = property_asked(head, total, table, id, k);
-    match a {
-        PropertyAsked::Refused(f) => {
-            *told = [f.number as u64, f.place];
-            &head[..0]
-        }
-        PropertyAsked::Is(index) => {
-            *told = [0, 0];
-            views::property_box(head, &*table, index)
-        }
-    }
+    let mut rows = [0u32; 2304];
+    let part = part_read(head, total, &mut *table, &mut rows, id, k, told);
+    arranged::arrange(table, &rows);
+    part
 }
 
 // Opens the file, and tells how many of n points are to be answered: 1 to 22, then 28.
@@ -170,10 +227,11 @@ fn ready(
     id: ItemId,
     n: usize,
 ) -> PointsFilled
-    requires { ⌜ 2048 ≤ length (now rows) ⌝ }
+    requires { ⌜ 2304 ≤ length (now rows) ⌝ }
     ensures { λ r. ⌜ (r ≡ Points.toldPointsFilled (Points.points (length (now (table .entry))) total (now (head .entry)) (id .0) n))
-        × ((now (table .exit) ≡ after total (now (head .entry)) (now (table .entry)))
+        × ((now (table .exit) ≡ fileAfter total (now (head .entry)) (now (table .entry)))
         × ((countOf r ≡ 0) ⊎ AtHand (now (head .entry)) total (now (table .exit)) (now (rows .exit)))) ⌝ }
+    ensures { λ r. ⌜ OrderGiven (now (head .entry)) total (now (table .entry)) (now (rows .exit)) ⌝ }
 {
     let o = opening::open_rows(head, total, table, rows);
     match o {
@@ -192,9 +250,10 @@ pub fn points(
 ) -> PointsFilled
     ensures { λ r. ⌜ PointsGiven (now (head .entry)) total (now (table .entry)) (id .0) (now (points .entry)) r (now (points .exit)) (now (table .exit)) ⌝ }
 {
-    let mut rows = [0u32; 2048];
+    let mut rows = [0u32; 2304];
     let filled = ready(head, total, &mut *table, &mut rows, id, points.len());
     let n = seam::count_of(filled);
     seam::answer_all(head, total, &*table, &rows, id, n, points);
+    arranged::arrange(table, &rows);
     filled
 }

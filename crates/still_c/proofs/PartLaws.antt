@@ -2,7 +2,7 @@
 use Prim.Native.Nat.{ℕ, zero, suc, _-_, _<_, _≤_}
 use native.Mathlib.Omega.{arith}
 use mathlib.Core.Path.{_≡_, refl, sym, ap, _∙_, subst}
-use mathlib.Core.List.{List, _++_}
+use mathlib.Core.List.{List, [], _++_}
 use lib.ListN.{length}
 use borrow.Author.Tests.{ne-eqb, leb-true}
 use lib.Dec.{leb}
@@ -15,18 +15,21 @@ use Rattle.table.specs.declared.PropertyIndex.{PropertyIndex}
 use Rattle.contents.specs.File.{File, readFile}
 use Rattle.rules.specs.Joined.{associationsOf, propertyAt}
 use Rattle.rules.specs.Places.{Places, placesIn, propertyOffset}
-use Rattle.rules.specs.Words.{wordsOf}
+use Rattle.rules.specs.Derivations.{sceneOf}
+use Rattle.rules.specs.Words.{wordsWith, wordsOf}
 use Rattle.rules.specs.Opening.{opened, after}
 use Rattle.questions.specs.Questions.{Part, partOf, propertyIn, property}
-use Rattle.views.specs.inner.View.{TableOf}
 use Rattle.rules.proofs.RuleLaws.{accepted-both}
+use Rattle.records.specs.inner.Raw.{Bounded}
+use Rattle.records.proofs.BoundLaws.{read-bounds}
 use Rattle.views.proofs.LieLaws.{PartIn}
 use Rattle.views.proofs.PartLaws.{property-parts}
 use Rattle.views.proofs.SoundLaws.{read-makes-sure}
+use Rattle.views.proofs.ViewLaws.{words-view}
+use Rattle.views.proofs.LayoutLaws.{by-id-few, layout-left}
 use Rattle.asked.specs.Told.{toldAsked}
 use Rattle.still.specs.Told.{indexOf}
 use Rattle.asked.specs.declared.PropertyAsked.the-variants as asked
-use Rattle.opening.proofs.FileLaws.{file-view, table-is}
 use Rattle.still.proofs.PropertyLaws.{property-refused, property-found, property-is, index-there}
 use Rattle.out.specs.Out.{outRefused, outPart}
 
@@ -39,15 +42,18 @@ module _ (total : ℕ) (head lent : List ℕ) (item k : ℕ) where
 
   pub asked-found : (i : PropertyIndex) → toldAsked (indexOf (length lent) total head item k) ≡ asked.Is i →
       total < 18446744073709551616 → (t r : List ℕ) → t ≡ after total head lent
-      → ((f : File) (x : List ℕ) → t ≡ wordsOf total head f ++ x → TableOf t head (placesIn total head) f →
+      → ((f : File) (records x : List ℕ) → t ≡ wordsWith records total head f ++ x → length records ≤ 4096 → Bounded f →
       i .0 ≤ length (f .properties) → r ≡ outPart (ok (partOf (placesIn total head) f (i .0))))
       → r ≡ outPart (property (length lent) total head item k)
+  unfolding opened
   asked-found i e few t r left given =
       let found = property-found total head lent item k i e in
-      let v = file-view total head lent few (found .0) (found .1) t left in
-      given (found .0) _ (table-is total head lent few (found .0) (found .1) t left) v
-      (index-there t head (placesIn total head) (found .0) item k (i .0) v (found .2))
-      ∙ ap outPart (sym (property-is total head lent item k (found .0) (i .0) (found .1) (found .2)))
+      let f = found .0 in
+      let a = then-ok _ _ f (found .1) .2 in
+      let b = read-bounds total head f (accepted-both total head f a .0) .0 in
+      given f _ _ (left ∙ layout-left wordsOf total head lent f (found .1)) (by-id-few f (sceneOf total head f) b) b
+      (index-there _ head (placesIn total head) f item k (i .0) (words-view total head f [] few a) (found .2))
+      ∙ ap outPart (sym (property-is total head lent item k f (i .0) (found .1) (found .2)))
 
 -- propertyOffset, propertyAt: offset and length lead to the box, in the caller's own head
 index-lies : (total : ℕ) (head : List ℕ) (f : File) → readFile total head ≡ ok f → (i : ℕ) →

@@ -22,7 +22,7 @@ use Rattle.pictures.specs.Depth.{depth, depthN, depthBy}
 use Rattle.rules.specs.Derivations.{pictureOf, sceneOf}
 use Rattle.rules.specs.Joined.{noItem, itemAt}
 use Rattle.rules.specs.Places.{Places, placesIn}
-use Rattle.rules.specs.Words.{joinAll, headWords, propertiesFrom, extentWords, sizeWords, itemWords, recordsFrom, wordsOf}
+use Rattle.rules.specs.Words.{joinAll, headWords, propertiesFrom, extentWords, sizeWords, itemWords, recordsFrom, fileWords}
 use Rattle.rules.proofs.SceneLaws.{picture-at}
 use Rattle.records.specs.inner.Raw.{Bounded, namedWords, derivedWords, placeWords, recordOf, extentRow, associationRows, targetRows, rawOf}
 use Rattle.records.proofs.JoinLaws.{join-same, join-length, join-getD}
@@ -40,14 +40,14 @@ use Rattle.views.proofs.WordLaws.{Rows, tableWith, fill, view}
 
 module _ (f : File) (s : Scene) where
   -- itemWords: the sizes and the depth stored over what only judging needs
-  pub row-filled : (r : ℕ) (i : Item) → sets (rowWords f i) 10 (sizeWords s r i) ≡ itemWords f s r i
+  pub row-filled : (r : ℕ) (i : Item) → sets (rowWords f i) 10 (sizeWords s r i) ≡ itemWords 0 f s r i
   unfolding itemWords recordOf namedWords derivedWords placeWords
   row-filled r i = sets-over (sizeWords s r i) (take 10 (rowWords f i)) (take 5 (drop 10 (rowWords f i))) (0 ∷ []) 10 refl (sym (sizes-length s r i))
 
   unfoldable pub recordsTo : ℕ → ℕ → List Item → List ℕ
   recordsTo zero q is = joinAll (rowWords f) is
   recordsTo (suc k) q [] = []
-  recordsTo (suc k) q (i ∷ is) = itemWords f s q i ++ recordsTo k (suc q) is
+  recordsTo (suc k) q (i ∷ is) = itemWords 0 f s q i ++ recordsTo k (suc q) is
 
   to-length : (k q : ℕ) (is : List Item) → length (recordsTo k q is) ≡ 16 * length is
   unfolding recordsTo
@@ -61,9 +61,9 @@ module _ (f : File) (s : Scene) where
   to-word (suc k) q [] r m h l = absurd (not-suc-le-zero h)
   to-word (suc k) q (i ∷ is) zero m h l =
       let e : 16 * 0 + m ≡ m = omega arith in
-      rw e (List·getD-append (itemWords f s q i) (recordsTo k (suc q) is) 0 m (rw (item-length f s q i) (omega arith)) ∙ item-front f s q i m l)
+      rw e (List·getD-append (itemWords 0 f s q i) (recordsTo k (suc q) is) 0 m (rw (item-length f s q i) (omega arith)) ∙ item-front f s q i m l)
   to-word (suc k) q (i ∷ is) (suc r) m h l =
-      getD-from (itemWords f s q i) (recordsTo k (suc q) is) 16 (16 * r + m) (16 * suc r + m) (item-length f s q i) (omega arith)
+      getD-from (itemWords 0 f s q i) (recordsTo k (suc q) is) 16 (16 * r + m) (16 * suc r + m) (item-length f s q i) (omega arith)
       ∙ to-word k (suc q) is r m (le-of-suc-le-suc h) l
 
   to-all : (q : ℕ) (is : List Item) → recordsTo (length is) q is ≡ recordsFrom f s q is
@@ -82,9 +82,9 @@ module _ (f : File) (s : Scene) where
   to-next (suc k) q (i ∷ is) h =
       let e : q + suc k ≡ suc q + k = omega arith in
       rw e
-      (sets-from (sizeWords s (suc q + k) (getD is k noItem)) (itemWords f s q i) (recordsTo k (suc q) is) 16
+      (sets-from (sizeWords s (suc q + k) (getD is k noItem)) (itemWords 0 f s q i) (recordsTo k (suc q) is) 16
       (16 * k + 10) (16 * suc k + 10) (item-length f s q i) (omega arith)
-      ∙ ap (λ (w : List ℕ). itemWords f s q i ++ w) (to-next k (suc q) is (le-of-suc-le-suc h)))
+      ∙ ap (λ (w : List ℕ). itemWords 0 f s q i ++ w) (to-next k (suc q) is (le-of-suc-le-suc h)))
 
   to-rows : (k : ℕ) → Rows (recordsTo k 0 (f .items)) f
   to-rows k = record { long = to-length k 0 (f .items); word = λ r m h l. to-word k 0 (f .items) r m h l }
@@ -129,7 +129,7 @@ module _ (total : ℕ) (head : List ℕ) (f : File) where
       (λ r h m l. words-spelled total head f few e placed r m h l) j h m l)))
 
   -- all rows
-  pub filled-all : total < 18446744073709551616 → readFile total head ≡ ok f → AllPlaced total head f → filledTo (length (f .items)) ≡ wordsOf total head f
+  pub filled-all : total < 18446744073709551616 → readFile total head ≡ ok f → AllPlaced total head f → filledTo (length (f .items)) ≡ fileWords total head f
   unfolding filledTo
   filled-all few e placed =
       ap (λ (w : List ℕ). tableWith total pl f w (extentRow pl)) (to-all f s 0 (f .items))
@@ -167,10 +167,11 @@ module _ (total : ℕ) (head : List ℕ) (f : File) where
       (λ e. sym (ap (λ (p : Picture). sizesOf p (depthBy (p .inputs) (λ j. depthN 16 s j))) (picture-at total head f r ∙ pick-no _ _ e)))
 
   -- SizesAre
-  pub words-sized : Bounded f → (x : List ℕ) → SizesAre (wordsOf total head f ++ x) s
+  pub words-sized : Bounded f → (x : List ℕ) → SizesAre (fileWords total head f ++ x) s
   words-sized b x =
       let n = length-map (f .items) (λ (i : Item). pictureOf total head f i) in
-      let word : (k : ℕ) → k < 5 → (r : ℕ) → r < length s → recordWord (wordsOf total head f ++ x) r (10 + k) ≡ getD (sizesOf (pictureAt s r) (depth s r)) k 0 =
+      let word : (k : ℕ) → k < 5 → (r : ℕ) → r < length s →
+      recordWord (fileWords total head f ++ x) r (10 + k) ≡ getD (sizesOf (pictureAt s r) (depth s r)) k 0 =
       λ k l r h. words-sizes total head f x b r k (omega arith) l ∙ ap (λ (w : List ℕ). getD w k 0) (sizes-said r) in
       record {
         few = omega (arith, b .few-items);

@@ -10,3 +10,4 @@ pub mod LocatedLaws
 pub mod ViewLaws
 pub mod FillLaws
 pub mod StandLaws
+pub mod LayoutLaws

@@ -6,12 +6,12 @@ use mathlib.Core.List.{List, _++_}
 use lib.ListN.{length, getD}
 use Rattle.contents.specs.File.{File}
 use Rattle.rules.specs.Places.{placesIn, propertyOffset}
-use Rattle.rules.specs.Words.{wordsOf}
+use Rattle.rules.specs.Words.{fileWords}
 use Rattle.views.specs.inner.View.{TableOf}
 use Rattle.views.specs.Lies.{LiesAt}
 use Rattle.views.proofs.ViewLaws.{words-offset}
 
-module _ (total : ℕ) (head x t : List ℕ) (f : File) (w : t ≡ wordsOf total head f ++ x)
+module _ (total : ℕ) (head x t : List ℕ) (f : File) (w : t ≡ fileWords total head f ++ x)
     (v : TableOf t head (placesIn total head) f) (k : ℕ) (h : k ≤ length (f .properties)) (some : k ≡ 0 → ⊥) where
   -- propertyOffset
   pub part-offset : getD t (4112 + 4 * (k - 1) + 1) 0 ≡ propertyOffset (placesIn total head) f k

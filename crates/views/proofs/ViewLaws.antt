@@ -26,7 +26,7 @@ use Rattle.rules.specs.Joined.{locationOf, noItem, itemAt}
 use Rattle.rules.specs.Places.{Places, placesIn, propertyOffset, fileOffset}
 use Rattle.rules.specs.Opening.{accepted}
 use Rattle.rules.specs.Rules.{rule13-14}
-use Rattle.rules.specs.Words.{headWords, extentWords, sizeWords, itemWords, recordsFrom, wordsOf}
+use Rattle.rules.specs.Words.{headWords, extentWords, sizeWords, itemWords, recordsFrom, wordsWith, fileWords}
 use Rattle.rules.proofs.RuleLaws.{judged-each, accepted-both}
 use Rattle.records.specs.inner.Raw.{Bounded, namedWords, derivedWords, placeWords, recordOf, capped, extentRow, extentRows, associationRows, targetRows, rawOf}
 use Rattle.records.specs.inner.Rows.{Distinct}
@@ -86,18 +86,18 @@ unfolding sizeWords
 sizes-length s r i = both (λ (l : List ℕ). length l ≡ 5) (image (i .type)) _ _ (λ e. refl) (λ e. refl)
 
 module _ (f : File) (s : Scene) where
-  pub item-length : (r : ℕ) (i : Item) → length (itemWords f s r i) ≡ 16
+  pub item-length : (r : ℕ) (i : Item) → length (itemWords 0 f s r i) ≡ 16
   unfolding itemWords
   item-length r i = omega (arith, length-append (sizeWords s r i) (0 ∷ []), sizes-length s r i)
 
-  pub item-front : (r : ℕ) (i : Item) (k : ℕ) → k < 10 → getD (itemWords f s r i) k 0 ≡ getD (rowWords f i) k 0
+  pub item-front : (r : ℕ) (i : Item) (k : ℕ) → k < 10 → getD (itemWords 0 f s r i) k 0 ≡ getD (rowWords f i) k 0
   unfolding itemWords recordOf namedWords derivedWords placeWords
-  item-front r i k h = sym (getD-take 10 (itemWords f s r i) k 0 h) ∙ getD-take 10 (rowWords f i) k 0 h
+  item-front r i k h = sym (getD-take 10 (itemWords 0 f s r i) k 0 h) ∙ getD-take 10 (rowWords f i) k 0 h
 
-  item-sizes : (r : ℕ) (i : Item) (k : ℕ) → k < 5 → getD (itemWords f s r i) (10 + k) 0 ≡ getD (sizeWords s r i) k 0
+  item-sizes : (r : ℕ) (i : Item) (k : ℕ) → k < 5 → getD (itemWords 0 f s r i) (10 + k) 0 ≡ getD (sizeWords s r i) k 0
   unfolding itemWords
   item-sizes r i k h =
-      getD-from (take 10 (itemWords f s r i)) (sizeWords s r i ++ (0 ∷ [])) 10 k (10 + k) refl refl ∙
+      getD-from (take 10 (itemWords 0 f s r i)) (sizeWords s r i ++ (0 ∷ [])) 10 k (10 + k) refl refl ∙
       List·getD-append (sizeWords s r i) (0 ∷ []) 0 k (rw (sizes-length s r i) h)
 
   -- recordsFrom
@@ -107,16 +107,16 @@ module _ (f : File) (s : Scene) where
   from-length q (i ∷ is) = rw (length-append, item-length q i, from-length (suc q) is) (omega arith)
 
   from-word : (q : ℕ) (is : List Item) (r k : ℕ) → r < length is → k < 16 →
-      getD (recordsFrom f s q is) (16 * r + k) 0 ≡ getD (itemWords f s (q + r) (getD is r noItem)) k 0
+      getD (recordsFrom f s q is) (16 * r + k) 0 ≡ getD (itemWords 0 f s (q + r) (getD is r noItem)) k 0
   unfolding recordsFrom
   from-word q [] r k h l = absurd (not-suc-le-zero h)
   from-word q (i ∷ is) zero k h l =
       let e : 16 * 0 + k ≡ k = omega arith in
-      rw (e, add-zero) (List·getD-append (itemWords f s q i) (recordsFrom f s (suc q) is) 0 k (rw (item-length q i) l))
+      rw (e, add-zero) (List·getD-append (itemWords 0 f s q i) (recordsFrom f s (suc q) is) 0 k (rw (item-length q i) l))
   from-word q (i ∷ is) (suc r) k h l =
       let e : q + suc r ≡ suc q + r = omega arith in
       rw e
-      (getD-from (itemWords f s q i) (recordsFrom f s (suc q) is) 16 (16 * r + k) (16 * suc r + k) (item-length q i) (omega arith)
+      (getD-from (itemWords 0 f s q i) (recordsFrom f s (suc q) is) 16 (16 * r + k) (16 * suc r + k) (item-length q i) (omega arith)
       ∙ from-word (suc q) is r k (le-of-suc-le-suc h) l)
 
   from-rows : Rows (recordsFrom f s 0 (f .items)) f
@@ -126,11 +126,11 @@ module _ (f : File) (s : Scene) where
         word = λ r k h l. from-word 0 (f .items) r k h (omega arith) ∙ item-front (0 + r) (itemAt f r) k l;
       }
 
--- wordsOf
+-- fileWords
 pub words-table : (total : ℕ) (head : List ℕ) (f : File)
-    → wordsOf total head f ≡ tableWith total (placesIn total head) f (recordsFrom f (sceneOf total head f) 0 (f .items))
+    → fileWords total head f ≡ tableWith total (placesIn total head) f (recordsFrom f (sceneOf total head f) 0 (f .items))
     (λ l e. extentWords (placesIn total head) l e)
-unfolding wordsOf tableBy associationRows targetRows
+unfolding wordsWith tableBy associationRows targetRows
 words-table total head f = refl
 
 -- allExtents
@@ -180,7 +180,7 @@ words-spelled total head f few e placed r j h l =
     (arith, extent-within total head f e placed r j h l)))
 
 pub placed-view : (total : ℕ) (head : List ℕ) (f : File) (x : List ℕ) → total < 18446744073709551616 → readFile total head ≡ ok f → AllPlaced total head f
-    → TableOf (wordsOf total head f ++ x) head (placesIn total head) f
+    → TableOf (fileWords total head f ++ x) head (placesIn total head) f
 placed-view total head f x few e placed =
     let pl = placesIn total head in
     let b = read-bounds total head f e in
@@ -190,14 +190,14 @@ placed-view total head f x few e placed =
     (property-parts total head f e))
 
 pub words-view : (total : ℕ) (head : List ℕ) (f : File) (x : List ℕ) → total < 18446744073709551616 → accepted total head ≡ ok f
-    → TableOf (wordsOf total head f ++ x) head (placesIn total head) f
+    → TableOf (fileWords total head f ++ x) head (placesIn total head) f
 words-view total head f x few e =
     let a = accepted-both total head f e in
     placed-view total head f x few (a .0) (judged-each total head f (a .1) .by-13-14)
 
 -- the words of a record behind the tenth: the sizes and the depth
 pub words-sizes : (total : ℕ) (head : List ℕ) (f : File) (x : List ℕ) → Bounded f → (r k : ℕ) → r < length (f .items) → k < 5
-    → recordWord (wordsOf total head f ++ x) r (10 + k) ≡ getD (sizeWords (sceneOf total head f) r (itemAt f r)) k 0
+    → recordWord (fileWords total head f ++ x) r (10 + k) ≡ getD (sizeWords (sceneOf total head f) r (itemAt f r)) k 0
 words-sizes total head f x b r k h l =
     let s = sceneOf total head f in
     let pl = placesIn total head in
@@ -211,7 +211,7 @@ words-sizes total head f x b r k h l =
 
 -- where a property begins, k counting from 0: what the table says is its offset
 pub words-offset : (total : ℕ) (head : List ℕ) (f : File) (x : List ℕ) → Bounded f → (k : ℕ) → k < length (f .properties)
-    → getD (wordsOf total head f ++ x) (4112 + 4 * k + 1) 0 ≡ propertyOffset (placesIn total head) f (k + 1)
+    → getD (fileWords total head f ++ x) (4112 + 4 * k + 1) 0 ≡ propertyOffset (placesIn total head) f (k + 1)
 unfolding propertyOffset pick
 words-offset total head f x b k h =
     let pl = placesIn total head in

@@ -8,7 +8,7 @@ ghost use Rattle.boxes.specs.Box.{kindOf, bodyOf};
 ghost use Rattle.contents.specs.File.{File};
 ghost use Rattle.rules.specs.Places.{Places, placesIn, propertyOffset, fileOffset};
 ghost use Rattle.rules.specs.Joined.{associationsOf, targetsOf, locationOf, propertyAt, noAssociation};
-ghost use Rattle.rules.specs.Words.{associationWord, wordsOf};
+ghost use Rattle.rules.specs.Words.{associationWord, fileWords};
 ghost use Rattle.records.specs.inner.Raw.{capped};
 ghost use Rattle.views.specs.inner.View.{TableOf, recordWord, idOf, noExtent};
 ghost use Rattle.views.specs.inner.Told.{toldRow};
@@ -26,14 +26,14 @@ pub fn item_count(table: &[u32]) -> usize
     table::word(table, 0) as usize
 }
 
-// The row at a place in table order, which is that of `iinf`.
+// The row at a place in `iinf`, while the records stand in its order: until the table is arranged, the last step of a call.
 pub fn row_at(_table: &[u32], place: usize) -> ItemRow
     ensures { λ r. ⌜ r .0 ≡ place ⌝ }
 {
     ItemRow(place)
 }
 
-// The row of an ID, looked for from a row on that the caller hopes for. No slots were kept.
+// The row of an ID, looked for from a row on that the caller hopes for, without keys.
 pub fn row_named(table: &[u32], id: ItemId, hope: ItemRow) -> FoundRow
     ensures { λ r. ⌜ ((head : List ℕ) (pl : Places) (f : File) → TableOf (now (table .entry)) head pl f → r ≡ toldRow (id .0) (f .items)) ⌝ }
 {
@@ -44,8 +44,7 @@ pub fn row_named(table: &[u32], id: ItemId, hope: ItemRow) -> FoundRow
     if 256 < n {
         return FoundRow::Nothing;
     }
-    let none = [0u32; 1];
-    records::row_of(table, n, id, hope, &none)
+    records::row_unkeyed(table, n, id, hope)
 }
 
 // A word of the record in a row.
@@ -191,7 +190,7 @@ pub fn property_box<'a>(head: &'a [u8], table: &[u32], index: PropertyIndex) -> 
     ensures { λ r. ⌜ ((pl : Places) (f : File) → TableOf (now (table .entry)) (now (head .entry)) pl f →
         index .0 ≤ length (f .properties) → now r ≡ propertyAt f (index .0)) ⌝ }
     ensures { λ r. ⌜ ((total : ℕ) (x : List ℕ) (f : File) →
-        now (table .entry) ≡ wordsOf total (now (head .entry)) f ++ x →
+        now (table .entry) ≡ fileWords total (now (head .entry)) f ++ x →
         TableOf (now (table .entry)) (now (head .entry)) (placesIn total (now (head .entry))) f →
         index .0 ≤ length (f .properties) → (index .0 ≡ 0 → ⊥) →
         LiesAt (head .entry .ptr) (propertyOffset (placesIn total (now (head .entry))) f (index .0)) (r .ptr)) ⌝ }

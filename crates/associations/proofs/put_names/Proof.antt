@@ -8,11 +8,11 @@ use Rattle.associations.proofs.put_names.Statement.{statement}
 use Rattle.associations.proofs.put_names.Tie as tie
 
 abbrev Inv-loop : tie.InvT-loop
-Inv-loop s from count f place table₀ n slots at₀ used₀ above₀ hope₀ i₀ table at used above hope i =
+Inv-loop s from count f place table₀ n keys at₀ used₀ above₀ hope₀ first i₀ table at used above hope i =
     NamesSo s from count (f .most) (f .version) (f .word) place n table₀ table at used above i
 
 abbrev μ-loop : tie.MeasureT-loop
-μ-loop s from count f place table₀ n slots at₀ used₀ above₀ hope₀ i₀ table at used above hope i = count - i
+μ-loop s from count f place table₀ n keys at₀ used₀ above₀ hope₀ first i₀ table at used above hope i = count - i
 
 loop-holds : tie.Need-loop-holds Inv-loop μ-loop
 loop-holds c =
@@ -20,6 +20,11 @@ loop-holds c =
     let a = c3 .args in
     names-begin (a .s .now) (a .from) (a .count) (a .f .most) (a .f .version) (a .f .word) (a .place) (a .n)
     (a .table .now) (c3 .pre .0)
+
+add-put-named : tie.Need-add-put-named Inv-loop μ-loop
+add-put-named c =
+    let c3 = c .before .before .before in
+    omega (arith, c3 .first-key .ensures .0, c3 .before .before .before .pre .4)
 
 put-named-requires : tie.Need-put-named-requires Inv-loop μ-loop
 put-named-requires c κs =
@@ -100,6 +105,6 @@ returns-3 c =
 
 pub put-names-spec : {M : Type 1} → statement M
 put-names-spec =
-    tie.close (tie.spec Inv-loop μ-loop loop-holds put-named-requires (search needs) same-length returns (search needs)
+    tie.close (tie.spec Inv-loop μ-loop (search needs) loop-holds add-put-named put-named-requires (search needs) same-length returns (search needs)
     add-used (search needs) (search needs) add-hope (search needs) (λ c. omega arith) loop-again same-length-2
     returns-2 same-length-3 returns-3)

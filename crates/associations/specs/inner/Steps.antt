@@ -22,15 +22,15 @@ use Rattle.associations.specs.declared.NamedPut.{NamedPut}
 use Rattle.associations.specs.declared.NamedPut.the-variants as named
 
 -- k associations, which go into the table as the associations from `used` on; m is the answer of reading them
-abbrev pub wordsOf : List Association → List ℕ
-wordsOf l = map (λ (a : Association). associationWord a) l
+abbrev pub associationWords : List Association → List ℕ
+associationWords l = map (λ (a : Association). associationWord a) l
 
 pub record AssociatedHere (m : Answer (Got (List Association))) (s : List ℕ) (k used : ℕ) (t u : List ℕ) (end : ℕ) : Type 0 where
   pub list : List Association
   pub read : m ≡ got list (drop end s)
   pub inside : end ≤ length s
   pub count-is : length list ≡ k
-  pub stored : u ≡ sets t (5136 + used) (wordsOf list)
+  pub stored : u ≡ sets t (5136 + used) (associationWords list)
 
 abbrev pub AssociatedIs : Answer (Got (List Association)) → List ℕ → ℕ → ℕ → List ℕ → List ℕ → Associated → Type 0
 AssociatedIs m s k used t u (associated.Done end) = AssociatedHere m s k used t u end
@@ -52,7 +52,7 @@ pub record ListedHere (m : Answer (Got (List Association))) (s : List ℕ) (row 
   pub inside : end ≤ length s
   pub count-is : length list ≡ count
   pub fits : used + count ≤ 2048
-  pub stored : u ≡ sets (sets t (5136 + used) (wordsOf list)) (16 + 16 * row + 3) (spanWords used count)
+  pub stored : u ≡ sets (sets t (5136 + used) (associationWords list)) (16 + 16 * row + 3) (spanWords used count)
 
 abbrev pub ListedIs : Answer (Got (List Association)) → List ℕ → ℕ → ℕ → List ℕ → List ℕ → Listed → Type 0
 ListedIs m s row used t u (listed.Is end count) = ListedHere m s row used t u end count
@@ -70,7 +70,7 @@ pub record NamedHere (m : Answer (Got IpmaEntry)) (s : List ℕ) (n above used :
   pub fits : used + count ≤ 2048
   pub rising : above ≤ id
   pub found : (row < n) × (idAt t row ≡ id)
-  pub stored : u ≡ sets (sets t (5136 + used) (wordsOf list)) (16 + 16 * row + 3) (spanWords used count)
+  pub stored : u ≡ sets (sets t (5136 + used) (associationWords list)) (16 + 16 * row + 3) (spanWords used count)
 
 abbrev pub NamedPutIs : Answer (Got IpmaEntry) → List ℕ → ℕ → ℕ → ℕ → List ℕ → List ℕ → NamedPut → Type 0
 NamedPutIs m s n above used t u (named.Is end count id row) = NamedHere m s n above used t u end count id (row .0)

@@ -1,11 +1,10 @@
 -- `items::read_infe` meets its contract. Assumes nothing.
-use mathlib.Core.Path.{refl, sym, ap, _∙_}
+use mathlib.Core.Path.{refl, sym, _∙_}
 use mathlib.Core.Logic.{inl, inr}
 use borrow.Author.Tests.{eq-eqb, ne-eqb}
 use Rattle.fields.proofs.FieldLaws.{pick-yes, pick-no}
 use Rattle.contents.specs.Full.{between}
 use Rattle.contents.proofs.FullLaws.{full-here, full-gone}
-use Rattle.items.specs.inner.Told.{toldInfe}
 use Rattle.items.proofs.FieldLaws.{infe-gone}
 use borrow.Author.Needs.{needs}
 use Rattle.items.proofs.read_infe.Statement.{statement}
@@ -13,41 +12,40 @@ use Rattle.items.proofs.read_infe.Tie as tie
 
 read-info-requires : tie.Need-read-info-requires
 read-info-requires c κs =
-    let c2 = c .before .before in let c4 = c2 .before .before in let c8 = c4 .before .before .before .before in
-    let a = c8 .args in (
+    let c2 = c .before .before in let c4 = c2 .before .before in let c6 = c4 .before .before in
+    let a = c6 .args in (
       full-here (between 2 3) (a .place) (a .s .now) _ _ (sym (c4 .read-full .ensures) ∙ c2 .h2 .given .1) .room,
       inl refl,
-      c8 .pre,
+      c6 .pre,
     )
 
 returns : tie.Need-returns
 returns c =
-    let c3 = c .before .before .before in let c5 = c3 .before .before in let c9 = c5 .before .before .before .before in
-    let a = c9 .args in
+    let c3 = c .before .before .before in let c5 = c3 .before .before in
+    let a = c5 .before .before .args in
     c .read-info .ensures _ (full-here (between 2 3) (a .place) (a .s .now) _ _
     (sym (c5 .read-full .ensures) ∙ c3 .h2 .given .1) .read) (pick-yes _ _ (eq-eqb _ _ (c .before .if1 .taken)))
 
 read-info-requires-2 : tie.Need-read-info-requires-2
 read-info-requires-2 c κs =
-    let c2 = c .before .before in let c4 = c2 .before .before in let c8 = c4 .before .before .before .before in
-    let a = c8 .args in (
+    let c2 = c .before .before in let c4 = c2 .before .before in let c6 = c4 .before .before in
+    let a = c6 .args in (
       full-here (between 2 3) (a .place) (a .s .now) _ _ (sym (c4 .read-full .ensures) ∙ c2 .h2 .given .1) .room,
       inr refl,
-      c8 .pre,
+      c6 .pre,
     )
 
 returns-2 : tie.Need-returns-2
-unfolding toldInfe
 returns-2 c =
-    let c3 = c .before .before .before in let c7 = c3 .before .before .before .before in
-    let a = c7 .args in
-    λ before e. sym (ap toldInfe (infe-gone before (a .place) (a .s .now) _ _
-    (full-gone (between 2 3) (a .place) (a .s .now) _ _ (sym (c3 .read-full .ensures) ∙ c .before .h .given .1))))
+    let c3 = c .before .before .before in
+    let a = c3 .before .before .args in
+    λ before k. infe-gone before (a .place) (a .s .now) _ _
+    (full-gone (between 2 3) (a .place) (a .s .now) _ _ (sym (c3 .read-full .ensures) ∙ c .before .h .given .1))
 
 returns-3 : tie.Need-returns-3
 returns-3 c =
-    let c3 = c .before .before .before in let c5 = c3 .before .before in let c9 = c5 .before .before .before .before in
-    let a = c9 .args in
+    let c3 = c .before .before .before in let c5 = c3 .before .before in
+    let a = c5 .before .before .args in
     c .read-info2 .ensures _ (full-here (between 2 3) (a .place) (a .s .now) _ _
     (sym (c5 .read-full .ensures) ∙ c3 .h2 .given .1) .read) (pick-no _ _ (ne-eqb _ _ (c .before .if1 .left)))
 

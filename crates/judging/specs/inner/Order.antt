@@ -16,7 +16,7 @@ use Rattle.contents.specs.File.{File, readFile}
 use Rattle.rules.specs.Places.{Places, placesIn}
 use Rattle.rules.specs.Derivations.{sceneOf}
 use Rattle.rules.specs.Rules.{inOrder, byDepth, rule13-14, rule15-29-16, rule17, rule18, rule19, judged}
-use Rattle.rules.specs.Words.{headWords, wordsOf}
+use Rattle.rules.specs.Words.{headWords, fileWords}
 use Rattle.records.specs.inner.Raw.{rawOf}
 use Rattle.views.specs.inner.View.{TableOf, Judging, AllPlaced, recordWord}
 use Rattle.derived.specs.inner.Told.{Resolved}
@@ -68,8 +68,8 @@ pub record Read (t head : List ℕ) (total idat : ℕ) (f : File) (x : List ℕ)
 
 pub record RestBy (head : List ℕ) (total : ℕ) (f : File) (x : List ℕ) (j : Judged) (u : List ℕ) : Type 0 where
   pub answer : j ≡ toldJudged (restJudged total head f)
-  pub left : restJudged total head f ≡ ok tt → u ≡ wordsOf total head f ++ x
+  pub left : restJudged total head f ≡ ok tt → u ≡ fileWords total head f ++ x
 
 pub record JudgedBy (head : List ℕ) (total : ℕ) (f : File) (x : List ℕ) (j : Judged) (u : List ℕ) : Type 0 where
   pub answer : j ≡ toldJudged (judged total head f)
-  pub left : judged total head f ≡ ok tt → u ≡ wordsOf total head f ++ x
+  pub left : judged total head f ≡ ok tt → u ≡ fileWords total head f ++ x

@@ -11,23 +11,23 @@ use Rattle.locations.proofs.put_entries.Statement.{statement}
 use Rattle.locations.proofs.put_entries.Tie as tie
 
 abbrev Inv-loop : tie.InvT-loop
-Inv-loop s from count w place table₀ n slots idat at₀ used₀ hope₀ i₀ table at used hope i =
+Inv-loop s from count w place table₀ n keys idat at₀ used₀ hope₀ i₀ table at used hope i =
     So s from count w place n idat table₀ table at used i
 
 abbrev μ-loop : tie.MeasureT-loop
-μ-loop s from count w place table₀ n slots idat at₀ used₀ hope₀ i₀ table at used hope i = count - i
+μ-loop s from count w place table₀ n keys idat at₀ used₀ hope₀ i₀ table at used hope i = count - i
 
 loop-holds : tie.Need-loop-holds Inv-loop μ-loop
 loop-holds c =
-    let c3 = c .before .before .before in
-    let a = c3 .args in
-    so-start (a .s .now) (a .from) (a .count) (a .w) (a .place) (a .n) (a .idat) (a .table .now) (c3 .pre .0)
-    (c3 .pre .4)
+    let c2 = c .before .before in
+    let a = c2 .args in
+    so-start (a .s .now) (a .from) (a .count) (a .w) (a .place) (a .n) (a .idat) (a .table .now) (c2 .pre .0)
+    (c2 .pre .4)
 
 put-entry-requires : tie.Need-put-entry-requires Inv-loop μ-loop
 put-entry-requires c κs =
-    let c2 = c .before .before in let c6 = c2 .before .before .before .before in
-    let p = c6 .pre in
+    let c2 = c .before .before in let c5 = c2 .before .before .before in
+    let p = c5 .pre in
     let h = c2 .loop .inv in
     let e = h .kept .same-length in
     (h .room, p .1, h .few, p .2, rw e (p .3))
@@ -41,8 +41,8 @@ returns : tie.Need-returns Inv-loop μ-loop
 unfolding toldLocations
 returns c =
     let c5 = c .before .before .before .before .before in let c7 = c5 .before .before in let c8 = c7 .before in
-    let c12 = c8 .before .before .before .before in
-    let a = c12 .args in
+    let c11 = c8 .before .before .before in
+    let a = c11 .args in
     let l = c8 .loop in
     let e = c5 .put-entry in
     let u = e .last .1 .1 .1 .1 .0 in
@@ -55,8 +55,8 @@ returns c =
 add-used : tie.Need-add-used Inv-loop μ-loop
 add-used c =
     let c5 = c .before .before .before .before .before in let c8 = c5 .before .before .before in
-    let c12 = c8 .before .before .before .before in
-    let a = c12 .args in
+    let c11 = c8 .before .before .before in
+    let a = c11 .args in
     let l = c8 .loop in
     let e = c5 .put-entry in
     let u = e .last .1 .1 .1 .1 .0 in
@@ -67,8 +67,8 @@ add-used c =
 add-hope : tie.Need-add-hope Inv-loop μ-loop
 add-hope c =
     let c5 = c .before .before .before .before .before in let c8 = c5 .before .before .before in
-    let c12 = c8 .before .before .before .before in
-    let a = c12 .args in
+    let c11 = c8 .before .before .before in
+    let a = c11 .args in
     let l = c8 .loop in
     let e = c5 .put-entry in
     let u = e .last .1 .1 .1 .1 .0 in
@@ -79,9 +79,9 @@ add-hope c =
 loop-again : tie.Need-loop-again Inv-loop μ-loop
 loop-again c =
     let c5 = c .before .before .before .before .before in let c7 = c5 .before .before in let c8 = c7 .before in
-    let c12 = c8 .before .before .before .before in
-    let p = c12 .pre in
-    let a = c12 .args in
+    let c11 = c8 .before .before .before in
+    let p = c11 .pre in
+    let a = c11 .args in
     let l = c8 .loop in
     let e = c5 .put-entry in
     let u = e .last .1 .1 .1 .1 .0 in
@@ -96,8 +96,8 @@ same-length-2 c = c .before .before .loop .inv .kept .same-length
 returns-2 : tie.Need-returns-2 Inv-loop μ-loop
 unfolding toldLocations
 returns-2 c =
-    let c2 = c .before .before in let c6 = c2 .before .before .before .before in
-    let a = c6 .args in
+    let c2 = c .before .before in let c5 = c2 .before .before .before in
+    let a = c5 .args in
     let l = c2 .loop in
     let z = so-left (a .s .now) (a .from) (a .count) (a .w) (a .place) (a .n) (a .idat) (a .table .now) (l .table)
     (l .at) (l .used) (l .i) (l .inv) (c .before .loop-test .left) (c .if1 .taken) in
@@ -109,8 +109,8 @@ same-length-3 c = c .before .before .loop .inv .kept .same-length
 returns-3 : tie.Need-returns-3 Inv-loop μ-loop
 unfolding toldLocations
 returns-3 c =
-    let c2 = c .before .before in let c6 = c2 .before .before .before .before in
-    let a = c6 .args in
+    let c2 = c .before .before in let c5 = c2 .before .before .before in
+    let a = c5 .args in
     let l = c2 .loop in
     let z = so-done (a .s .now) (a .from) (a .count) (a .w) (a .place) (a .n) (a .idat) (a .table .now) (l .table)
     (l .at) (l .used) (l .i) (l .inv) (c .before .loop-test .left) (c .if1 .left) in

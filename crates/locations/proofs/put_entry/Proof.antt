@@ -9,16 +9,16 @@ use Rattle.locations.proofs.put_entry.Tie as tie
 
 put-rest-requires : tie.Need-put-rest-requires
 put-rest-requires c κs =
-    let c2 = c .before .before in let c4 = c2 .before .before in let c9 = c4 .before .before .before .before .before in
-    let a = c9 .args in
+    let c2 = c .before .before in let c4 = c2 .before .before in let c8 = c4 .before .before .before .before in
+    let a = c8 .args in
     let h = subst (EntryAre (a .table .now) (a .n) (a .w) (a .used) (a .place) (a .s .now) (a .at)) (c2 .r2 .given .1)
     (c4 .read-entry .ensures) in
-    (h .room, c9 .pre .1, h .few, omega arith, c9 .pre .4)
+    (h .room, c8 .pre .1, h .few, omega arith, c8 .pre .4)
 
 returns : tie.Need-returns
 returns c =
-    let c3 = c .before .before .before in let c8 = c3 .before .before .before .before .before in
-    let a = c8 .args in
+    let c3 = c .before .before .before in let c7 = c3 .before .before .before .before in
+    let a = c7 .args in
     let h = subst (EntryAre (a .table .now) (a .n) (a .w) (a .used) (a .place) (a .s .now) (a .at))
     (c .before .r .given .1) (c3 .read-entry .ensures) in
     put-gone (a .table .now) (a .table .now) (a .n) (a .w) (a .used) (a .place) (a .s .now) (a .at) (a .idat) _ refl h
@@ -26,8 +26,8 @@ returns c =
 returns-2 : tie.Need-returns-2
 returns-2 c =
     let c2 = c .before .before in let c5 = c2 .before .before .before in let c7 = c5 .before .before in
-    let c12 = c7 .before .before .before .before .before in
-    let a = c12 .args in
+    let c11 = c7 .before .before .before .before in
+    let a = c11 .args in
     let h = subst (EntryAre (a .table .now) (a .n) (a .w) (a .used) (a .place) (a .s .now) (a .at)) (c5 .r2 .given .1)
     (c7 .read-entry .ensures) in
     let p = c2 .put-rest in

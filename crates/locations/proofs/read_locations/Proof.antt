@@ -15,38 +15,38 @@ use Rattle.locations.proofs.read_locations.Tie as tie
 
 read-sizes-requires : tie.Need-read-sizes-requires
 read-sizes-requires c κs =
-    let c3 = c .before .before .before in let c7 = c3 .before .before .before .before in
-    let a = c7 .args in
+    let c3 = c .before .before .before in let c6 = c3 .before .before .before in
+    let a = c6 .args in
     (full-here (upto 2) (a .place) (a .s .now) _ _ (sym (c3 .read-full .ensures) ∙ c .before .h2 .given .1)) .room
 
 put-entries-requires : tie.Need-put-entries-requires
 put-entries-requires c κs =
     let c4 = c .before .before .before .before in let c6 = c4 .before .before in let c8 = c6 .before .before in
-    let c14 = c8 .before .before .before .before .before .before in
-    let a = c14 .args in
+    let c13 = c8 .before .before .before .before .before in
+    let a = c13 .args in
     let v = c8 .h2 .given .0 .0 in
     let z = subst (SizesAre (sizes-form v .read (a .place) (drop 4 (a .s .now))) (a .s .now)) (c4 .z2 .given .1)
     (c6 .read-sizes .ensures) in
-    let pre = c14 .pre in
+    let pre = c13 .pre in
     (omega (arith, z .room, c .before .if1 .taken), z .sized, pre .1, pre .0, pre .2)
 
 put-entries-requires-2 : tie.Need-put-entries-requires-2
 put-entries-requires-2 c κs =
     let c4 = c .before .before .before .before in let c6 = c4 .before .before in let c8 = c6 .before .before in
-    let c14 = c8 .before .before .before .before .before .before in
-    let a = c14 .args in
+    let c13 = c8 .before .before .before .before .before in
+    let a = c13 .args in
     let v = c8 .h2 .given .0 .0 in
     let z = subst (SizesAre (sizes-form v .read (a .place) (drop 4 (a .s .now))) (a .s .now)) (c4 .z2 .given .1)
     (c6 .read-sizes .ensures) in
-    let pre = c14 .pre in
+    let pre = c13 .pre in
     (omega (arith, z .room, four-wide _ (z .sized) (c .before .if1 .left)), z .sized, pre .1, pre .0, pre .2)
 
 returns : tie.Need-returns
 returns c =
     let c2 = c .before .before in let c4 = c2 .before .before in let c7 = c4 .before .before .before in
     let c9 = c7 .before .before in let c11 = c9 .before .before in let c13 = c11 .before .before in
-    let c17 = c13 .before .before .before .before in
-    let a = c17 .args in
+    let c16 = c13 .before .before .before in
+    let a = c16 .args in
     let v = c11 .h2 .given .0 .0 in
     let z = subst (SizesAre (sizes-form v .read (a .place) (drop 4 (a .s .now))) (a .s .now)) (c7 .z2 .given .1)
     (c9 .read-sizes .ensures) in
@@ -62,8 +62,8 @@ returns c =
 returns-2 : tie.Need-returns-2
 unfolding toldLocations
 returns-2 c =
-    let c3 = c .before .before .before in let c7 = c3 .before .before .before .before in
-    let a = c7 .args in
+    let c3 = c .before .before .before in let c6 = c3 .before .before .before in
+    let a = c6 .args in
     let f = full-gone (upto 2) (a .place) (a .s .now) _ _ (sym (c3 .read-full .ensures) ∙ c .before .h .given .1) in
     let e = iloc-gone (idsIn (a .table .now) (a .n)) (a .place) (a .s .now) _ _ f in
     (sym (ap toldLocations e), left-gone (a .s .now) (a .place) (a .n) (a .idat) (a .table .now) _ _ e)
@@ -72,8 +72,8 @@ returns-3 : tie.Need-returns-3
 unfolding toldLocations
 returns-3 c =
     let c3 = c .before .before .before in let c5 = c3 .before .before in let c7 = c5 .before .before in
-    let c11 = c7 .before .before .before .before in
-    let a = c11 .args in
+    let c10 = c7 .before .before .before in
+    let a = c10 .args in
     let f = full-here (upto 2) (a .place) (a .s .now) _ _ (sym (c7 .read-full .ensures) ∙ c5 .h2 .given .1) in
     let v = c5 .h2 .given .0 .0 in
     let z = subst (SizesAre (sizes-form v .read (a .place) (drop 4 (a .s .now))) (a .s .now)) (c .before .z .given .1)
@@ -85,8 +85,8 @@ returns-4 : tie.Need-returns-4
 returns-4 c =
     let c2 = c .before .before in let c4 = c2 .before .before in let c7 = c4 .before .before .before in
     let c9 = c7 .before .before in let c11 = c9 .before .before in let c13 = c11 .before .before in
-    let c17 = c13 .before .before .before .before in
-    let a = c17 .args in
+    let c16 = c13 .before .before .before in
+    let a = c16 .args in
     let v = c11 .h2 .given .0 .0 in
     let z = subst (SizesAre (sizes-form v .read (a .place) (drop 4 (a .s .now))) (a .s .now)) (c7 .z2 .given .1)
     (c9 .read-sizes .ensures) in

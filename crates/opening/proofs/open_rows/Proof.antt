@@ -15,7 +15,7 @@ judge-requires c κs =
     let r = c9 .read-file .ensures in
     let is = c3 .r2 .given .1 in
     let k = read-on (a .total) (a .head .now) (a .table .now) _ _ _ (sym (r .0) ∙ is) (r .1 .0) in
-    ((k .1 .0, drop 11280 (a .table .now), k .1 .1), r .1 .1 _ _ is)
+    ((k .1 .0, drop 11280 (a .table .now), k .1 .1), r .1 .1 _ _ is .0)
 
 returns : tie.Need-returns
 returns c =

@@ -5,11 +5,11 @@ use Rattle.out.proofs.part_numbers.Statement.{statement}
 use Rattle.out.proofs.part_numbers.Tie as tie
 
 returns : tie.Need-returns
-returns c = λ total head x f w v h. part-none _ f _ (c .if1 .taken)
+returns c = λ total head records x f w few b h. part-none _ f _ (c .if1 .taken)
 
 returns-2 : tie.Need-returns-2
 returns-2 c =
-    λ total head x f w v h. part-some total head x _ f w v _ h (c .before .before .if1 .left) _ _
+    λ total head records x f w few b h. part-some total head records x _ f w few b _ h (c .before .before .if1 .left) _ _
     (c .before .word .ensures) (c .word2 .ensures)
 
 pub part-numbers-spec : {M : Type 1} → statement M

@@ -11,38 +11,38 @@ use Rattle.reading.proofs.read_iloc.Tie as tie
 
 idat-at-requires : tie.Need-idat-at-requires
 idat-at-requires c κs =
-    let c5 = c .before .before .before .before .before in
-    (c5 .args .s .now, c5 .pre .0, c5 .pre .1)
+    let c4 = c .before .before .before .before in
+    (c4 .args .s .now, c4 .pre .0, c4 .pre .1)
 
 sub-read-locations : tie.Need-sub-read-locations
 sub-read-locations c =
-    let c6 = c .before .before .before .before .before .before in
-    let h = iloc-within (c6 .args .s .now) (c6 .args .at) _ (c6 .pre .0) (c6 .pre .1) in
+    let c5 = c .before .before .before .before .before in
+    let h = iloc-within (c5 .args .s .now) (c5 .args .at) _ (c5 .pre .0) (c5 .pre .1) in
     omega arith
 
 part-read-locations-start : tie.Need-part-read-locations-start
 part-read-locations-start c =
-    let c6 = c .before .before .before .before .before .before in
-    let h = iloc-within (c6 .args .s .now) (c6 .args .at) _ (c6 .pre .0) (c6 .pre .1) in
+    let c5 = c .before .before .before .before .before in
+    let h = iloc-within (c5 .args .s .now) (c5 .args .at) _ (c5 .pre .0) (c5 .pre .1) in
     omega arith
 
 part-read-locations-end : tie.Need-part-read-locations-end
 part-read-locations-end c =
-    let c6 = c .before .before .before .before .before .before in
-    let h = iloc-within (c6 .args .s .now) (c6 .args .at) _ (c6 .pre .0) (c6 .pre .1) in
+    let c5 = c .before .before .before .before .before in
+    let h = iloc-within (c5 .args .s .now) (c5 .args .at) _ (c5 .pre .0) (c5 .pre .1) in
     omega arith
 
 add-read-locations : tie.Need-add-read-locations
 add-read-locations c =
-    let c7 = c .before .before .before .before .before .before .before in
-    let h = iloc-within (c7 .args .s .now) (c7 .args .at) _ (c7 .pre .0) (c7 .pre .1) in
+    let c6 = c .before .before .before .before .before .before in
+    let h = iloc-within (c6 .args .s .now) (c6 .args .at) _ (c6 .pre .0) (c6 .pre .1) in
     omega arith
 
 read-locations-requires : tie.Need-read-locations-requires
 read-locations-requires c κs =
-    let c8 = c .before .before .before .before .before .before .before .before in
-    let a = c8 .args in
-    let p = c8 .pre in
+    let c7 = c .before .before .before .before .before .before .before in
+    let a = c7 .args in
+    let p = c7 .pre in
     let k = p .4 .2 .ready in (
       p .2,
       omega (arith, k .count, k .bounded .few-items),
@@ -53,9 +53,9 @@ read-locations-requires c κs =
 read-iprp-requires : tie.Need-read-iprp-requires
 read-iprp-requires c κs =
     let c3 = c .before .before .before in let c7 = c3 .before .before .before .before in
-    let c10 = c7 .before .before .before in let c16 = c10 .before .before .before .before .before .before in
-    let a = c16 .args in
-    let p = c16 .pre in
+    let c10 = c7 .before .before .before in let c15 = c10 .before .before .before .before .before in
+    let a = c15 .args in
+    let p = c15 .pre in
     let o = iloc-on (a .s .now) (a .at) _ (p .0) (a .n) (p .4 .0) (p .4 .1) _ (p .4 .2) _ refl _
     (sym (c7 .read-locations .ensures .0) ∙ c3 .t2 .given .1) _ (c10 .idat-at .ensures _ (p .0)) _
     (c7 .read-locations .ensures .1) 0 in (
@@ -69,9 +69,9 @@ read-iprp-requires c κs =
 returns : tie.Need-returns
 returns c =
     let c5 = c .before .before .before .before .before in
-    let c14 = c5 .before .before .before .before .before .before .before .before .before in
-    let a = c14 .args in (
-      (λ is x b. iloc-gone (a .s .now) (a .at) _ (c14 .pre .0) (a .n) is x _ b _ refl (a .total) (a .primary .0) _
+    let c13 = c5 .before .before .before .before .before .before .before .before in
+    let a = c13 .args in (
+      (λ is x b. iloc-gone (a .s .now) (a .at) _ (c13 .pre .0) (a .n) is x _ b _ refl (a .total) (a .primary .0) _
           (sym (c5 .read-locations .ensures .0) ∙ c .before .t .given .1) _),
       (c5 .read-locations .ensures .1 .kept, λ i e q. no-reading _ i e q),
     )
@@ -80,10 +80,10 @@ returns-2 : tie.Need-returns-2
 returns-2 c =
     let c4 = c .before .before .before .before in let c8 = c4 .before .before .before .before in
     let c12 = c8 .before .before .before .before in let c15 = c12 .before .before .before in
-    let c21 = c15 .before .before .before .before .before .before in
-    let a = c21 .args in (
-      (λ is x b. let o = iloc-on (a .s .now) (a .at) _ (c21 .pre .0) (a .n) is x _ b _ refl _
-          (sym (c12 .read-locations .ensures .0) ∙ c8 .t2 .given .1) _ (c15 .idat-at .ensures _ (c21 .pre .0)) _
+    let c20 = c15 .before .before .before .before .before in
+    let a = c20 .args in (
+      (λ is x b. let o = iloc-on (a .s .now) (a .at) _ (c20 .pre .0) (a .n) is x _ b _ refl _
+          (sym (c12 .read-locations .ensures .0) ∙ c8 .t2 .given .1) _ (c15 .idat-at .ensures _ (c20 .pre .0)) _
           (c12 .read-locations .ensures .1) (a .primary .0) in after-same (a .s .now) (a .at) (a .total) _ _ _ x _ (o .3)
           (c4 .read-iprp .ensures .0 is (o .0) x (o .1) (o .2))),
       (

@@ -11,9 +11,9 @@ use Rattle.references.proofs.put_counted.Tie as tie
 
 returns : tie.Need-returns
 returns c =
-    let c5 = c .before .before .before .before .before in
-    let a = c5 .args in
-    let p = c5 .pre in (
+    let c4 = c .before .before .before .before in
+    let a = c4 .args in
+    let p = c4 .pre in (
       (kept-same _, λ y. refl),
       (
         λ before q fresh. put-count-cut (a .table .now) (a .n) (a .w) (a .place) (a .used)
@@ -24,16 +24,16 @@ returns c =
 
 put-derivation-requires : tie.Need-put-derivation-requires
 put-derivation-requires c κs =
-    let c3 = c .before .before .before in let c4 = c3 .before in let c8 = c4 .before .before .before .before in
-    let c9 = c8 .before in
-    let p = c9 .pre in (
+    let c3 = c .before .before .before in let c4 = c3 .before in let c7 = c4 .before .before .before in
+    let c8 = c7 .before in
+    let p = c8 .pre in (
       (p .0),
       (
         c4 .if1 .left,
         p .1 .1,
         p .1 .2,
         c3 .be16 .ensures,
-        omega (arith, c3 .be16 .ensures, be-below (c9 .args .s .now) (c9 .args .w) 2 (c8 .shared-slice-known .given)),
+        omega (arith, c3 .be16 .ensures, be-below (c8 .args .s .now) (c8 .args .w) 2 (c7 .shared-slice-known .given)),
       ),
     )
 
@@ -50,16 +50,16 @@ returns-2 c =
 
 put-targets-requires : tie.Need-put-targets-requires
 put-targets-requires c κs =
-    let c4 = c .before .before .before .before in let c9 = c4 .before .before .before .before .before in
-    let p = c9 .pre in
+    let c4 = c .before .before .before .before in let c8 = c4 .before .before .before .before in
+    let p = c8 .pre in
     (p .0 .0, p .0 .1, p .0 .2, c4 .if1 .left, p .0 .3, p .0 .4, λ y. never-both _ y refl)
 
 returns-3 : tie.Need-returns-3
 returns-3 c =
     let c7 = c .before .before .before .before .before .before .before in let c10 = c7 .before .before .before in
-    let c11 = c10 .before in let c12 = c11 .before in let c17 = c12 .before .before .before .before .before in
-    let a = c17 .args in
-    let p = c17 .pre in (
+    let c11 = c10 .before in let c12 = c11 .before in let c16 = c12 .before .before .before .before in
+    let a = c16 .args in
+    let p = c16 .pre in (
       (c7 .put-targets .ensures .1 .0 .kept, λ y. c7 .put-targets .ensures .1 .0 .other refl),
       (
         λ before q fresh. pass-refused (a .table .now) (a .n) (a .w) (a .place) (a .used) (a .s .now) (a .derives)
@@ -72,9 +72,9 @@ returns-3 c =
 returns-4 : tie.Need-returns-4
 returns-4 c =
     let c6 = c .before .before .before .before .before .before in let c9 = c6 .before .before .before in
-    let c10 = c9 .before in let c11 = c10 .before in let c16 = c11 .before .before .before .before .before in
-    let a = c16 .args in
-    let p = c16 .pre in (
+    let c10 = c9 .before in let c11 = c10 .before in let c15 = c11 .before .before .before .before in
+    let a = c15 .args in
+    let p = c15 .pre in (
       (c6 .put-targets .ensures .1 .0 .kept, λ y. c6 .put-targets .ensures .1 .0 .other refl),
       (
         λ before q fresh. pass-done (a .table .now) (a .n) (a .w) (a .place) (a .used) (a .s .now) (a .derives) before

@@ -11,9 +11,9 @@ use Rattle.references.proofs.put_derivation.Tie as tie
 
 returns : tie.Need-returns
 returns c =
-    let c5 = c .before .before .before .before .before in
-    let a = c5 .args in
-    let p = c5 .pre in (
+    let c4 = c .before .before .before .before in
+    let a = c4 .args in
+    let p = c4 .pre in (
       kept-same _,
       (
         λ before q fresh. dimg-none (a .table .now) (a .n) (a .w) (a .place) (a .used) (a .s .now) true
@@ -24,9 +24,9 @@ returns c =
 
 returns-2 : tie.Need-returns-2
 returns-2 c =
-    let c6 = c .before .before .before .before .before .before in
-    let a = c6 .args in
-    let p = c6 .pre in (
+    let c5 = c .before .before .before .before .before in
+    let a = c5 .args in
+    let p = c5 .pre in (
       kept-same _,
       (
         λ before q fresh. dimg-over (a .table .now) (a .n) (a .w) (a .place) (a .used) (a .s .now) true
@@ -39,9 +39,9 @@ returns-2 c =
 returns-3 : tie.Need-returns-3
 returns-3 c =
     let c7 = c .before .before .before .before .before .before .before in let c10 = c7 .before .before .before in
-    let c11 = c10 .before in let c16 = c11 .before .before .before .before .before in
-    let a = c16 .args in
-    let p = c16 .pre in (
+    let c11 = c10 .before in let c15 = c11 .before .before .before .before in
+    let a = c15 .args in
+    let p = c15 .pre in (
       c7 .put-targets .ensures .1 .0 .kept,
       (
         λ before q fresh. dimg-refused (a .table .now) (a .n) (a .w) (a .place)
@@ -55,9 +55,9 @@ returns-4 : tie.Need-returns-4
 returns-4 c =
     let c2 = c .before .before in let c4 = c2 .before .before in
     let c10 = c4 .before .before .before .before .before .before in let c13 = c10 .before .before .before in
-    let c14 = c13 .before in let c19 = c14 .before .before .before .before .before in
-    let a = c19 .args in
-    let p = c19 .pre in
+    let c14 = c13 .before in let c18 = c14 .before .before .before .before in
+    let a = c18 .args in
+    let p = c18 .pre in
     let put = c10 .put-targets in (
       kept-span _ _ _ (a .row .0) (a .used) (a .k) (omega (arith, p .1 .1, p .0 .2)) (put .ensures .1 .0 .kept)
           (c2 .put-span .ensures),

@@ -10,21 +10,21 @@ use Rattle.references.proofs.put_references.Statement.{statement}
 use Rattle.references.proofs.put_references.Tie as tie
 
 abbrev Inv-loop : tie.InvT-loop
-Inv-loop s w place base table₀ rows₀ n slots at₀ used₀ table rows at used =
+Inv-loop s w place base table₀ rows₀ n keys at₀ used₀ table rows at used =
     So s w place base n table₀ table at used × Rowing n used rows₀ table rows
 
 abbrev μ-loop : tie.MeasureT-loop
-μ-loop s w place base table₀ rows₀ n slots at₀ used₀ table rows at used = length s - at
+μ-loop s w place base table₀ rows₀ n keys at₀ used₀ table rows at used = length s - at
 
 loop-holds : tie.Need-loop-holds Inv-loop μ-loop
 loop-holds c =
-    let c4 = c .before .before .before .before in
-    (begin _ _ _ _ _ _ (c4 .pre .0 .4) (c4 .pre .1 .1), rowing-none _ _ _)
+    let c3 = c .before .before .before in
+    (begin _ _ _ _ _ _ (c3 .pre .0 .4) (c3 .pre .1 .1), rowing-none _ _ _)
 
 add-here : tie.Need-add-here Inv-loop μ-loop
 add-here c =
-    let c6 = c .before .before .before .before .before .before in
-    omega (arith, c .before .loop .inv .0 .here, c6 .pre .0 .3)
+    let c5 = c .before .before .before .before .before in
+    omega (arith, c .before .loop .inv .0 .here, c5 .pre .0 .3)
 
 sub-put-reference : tie.Need-sub-put-reference Inv-loop μ-loop
 sub-put-reference c =
@@ -47,8 +47,8 @@ part-put-reference-end c =
 put-reference-requires : tie.Need-put-reference-requires Inv-loop μ-loop
 put-reference-requires c κs =
     let c8 = c .before .before .before .before .before .before .before .before in
-    let c13 = c8 .before .before .before .before .before in
-    let p = c13 .pre in (
+    let c12 = c8 .before .before .before .before in
+    let p = c12 .pre in (
       omega (arith, c8 .loop .inv .0 .kept .same-length, p .0 .0),
       omega (arith, c8 .loop .inv .1 .long, p .0 .1),
       p .0 .2,
@@ -92,9 +92,9 @@ loop-again : tie.Need-loop-again Inv-loop μ-loop
 loop-again c =
     let c7 = c .before .before .before .before .before .before .before in
     let c11 = c7 .before .before .before .before in let c13 = c11 .before .before in let c15 = c13 .before .before in
-    let c16 = c15 .before in let c21 = c16 .before .before .before .before .before in
+    let c16 = c15 .before in let c20 = c16 .before .before .before .before in
     let l = c16 .loop in
-    let p = c21 .pre in
+    let p = c20 .pre in
     let put = c7 .put-reference in (
       grown _ _ _ _ _ _ _ _ _ (l .inv .0) _ _ _ (sym (c15 .child-at .ensures) ∙ c13 .c .given .1) _ _
           (c11 .is-dimg .ensures) (put .ensures .0 .0) (put .ensures .0 .1) _

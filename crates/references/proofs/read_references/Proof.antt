@@ -14,14 +14,14 @@ use Rattle.references.proofs.read_references.Tie as tie
 put-references-requires : tie.Need-put-references-requires
 put-references-requires c κs =
     let c4 = c .before .before .before .before in let c6 = c4 .before .before in
-    let c11 = c6 .before .before .before .before .before in
-    let p = c11 .pre in (
+    let c10 = c6 .before .before .before .before in
+    let p = c10 .pre in (
       (
         p .0 .0,
         p .0 .1,
         p .0 .2,
         p .0 .3,
-        (full-here (upto 1) (c11 .args .place) (c11 .args .s .now) _ _
+        (full-here (upto 1) (c10 .args .place) (c10 .args .s .now) _ _
             (sym (c6 .read-full .ensures) ∙ c4 .h2 .given .1)) .room,
         inl refl,
       ),
@@ -31,8 +31,8 @@ put-references-requires c κs =
 returns : tie.Need-returns
 returns c =
     let c4 = c .before .before .before .before in let c7 = c4 .before .before .before in let c9 = c7 .before .before in
-    let c11 = c9 .before .before in let c16 = c11 .before .before .before .before .before in
-    let a = c16 .args in
+    let c11 = c9 .before .before in let c15 = c11 .before .before .before .before in
+    let a = c15 .args in
     let x = tells-by (a .s .now) (a .place) (a .base) (a .n) (a .table .now) _ _
     (full-here (upto 1) (a .place) (a .s .now) _ _ (sym (c11 .read-full .ensures) ∙ c9 .h2 .given .1)) 2
     (pick-yes _ _ (eq-eqb _ _ (c7 .if1 .taken))) _ _ (c4 .put-references .ensures .0)
@@ -42,14 +42,14 @@ returns c =
 put-references-requires-2 : tie.Need-put-references-requires-2
 put-references-requires-2 c κs =
     let c4 = c .before .before .before .before in let c6 = c4 .before .before in
-    let c11 = c6 .before .before .before .before .before in
-    let p = c11 .pre in (
+    let c10 = c6 .before .before .before .before in
+    let p = c10 .pre in (
       (
         p .0 .0,
         p .0 .1,
         p .0 .2,
         p .0 .3,
-        (full-here (upto 1) (c11 .args .place) (c11 .args .s .now) _ _
+        (full-here (upto 1) (c10 .args .place) (c10 .args .s .now) _ _
             (sym (c6 .read-full .ensures) ∙ c4 .h2 .given .1)) .room,
         inr refl,
       ),
@@ -58,8 +58,8 @@ put-references-requires-2 c κs =
 
 returns-2 : tie.Need-returns-2
 returns-2 c =
-    let c3 = c .before .before .before in let c8 = c3 .before .before .before .before .before in
-    let a = c8 .args in
+    let c3 = c .before .before .before in let c7 = c3 .before .before .before .before in
+    let a = c7 .args in
     let x = tells-gone (a .s .now) (a .place) (a .base) (a .n) (a .table .now) _
     (full-gone (upto 1) (a .place) (a .s .now) _ _ (sym (c3 .read-full .ensures) ∙ c .before .h .given .1)) in
     (x .0, (x .1, λ m e. no-targets _ m e))
@@ -67,8 +67,8 @@ returns-2 c =
 returns-3 : tie.Need-returns-3
 returns-3 c =
     let c4 = c .before .before .before .before in let c7 = c4 .before .before .before in let c9 = c7 .before .before in
-    let c11 = c9 .before .before in let c16 = c11 .before .before .before .before .before in
-    let a = c16 .args in
+    let c11 = c9 .before .before in let c15 = c11 .before .before .before .before in
+    let a = c15 .args in
     let x = tells-by (a .s .now) (a .place) (a .base) (a .n) (a .table .now) _ _
     (full-here (upto 1) (a .place) (a .s .now) _ _ (sym (c11 .read-full .ensures) ∙ c9 .h2 .given .1)) 4
     (pick-no _ _ (ne-eqb _ _ (c7 .if1 .left))) _ _ (c4 .put-references2 .ensures .0)

@@ -13,7 +13,7 @@ returns c =
 returns-2 : tie.Need-returns-2
 returns-2 c =
     λ total head lent item k few e left. asked-found total head lent item k _ (sym e ∙ c .before .before .a2 .given .1)
-    few _ _ left (λ f x. c .part-numbers .ensures total head x f)
+    few _ _ left (λ f records x. c .part-numbers .ensures total head records x f)
 
 pub property-numbers-spec : {M : Type 1} → statement M
 property-numbers-spec =

@@ -8,10 +8,10 @@ use Rattle.views.proofs.row_named.Tie as tie
 
 returns-3 : tie.Need-returns-3
 returns-3 c =
-    λ head pl f v. found-told v _ _ _ (c .before .before .before .item-count .ensures ∙ v .items) (c .row-of .ensures)
+    λ head pl f v. found-told v _ _ _ (c .before .before .item-count .ensures ∙ v .items) (c .row-unkeyed .ensures)
 
 pub row-named-spec : {M : Type 1} → statement M
 row-named-spec =
     tie.close (tie.spec (λ c. λ head pl f v. absurd (omega (arith, v .enough))) (search needs)
-    (λ c. λ head pl f v. absurd (omega (arith, v .items, v .bounded .few-items))) (search needs)
-    (λ c κs. (omega arith, omega arith)) returns-3)
+    (λ c. λ head pl f v. absurd (omega (arith, v .items, v .bounded .few-items))) (λ c κs. (omega arith, omega arith))
+    returns-3)
