@@ -1,0 +1,3 @@
+pub mod LinkLaws
+pub mod ByteLaws
+pub mod ChainExamples
