@@ -1,4 +1,4 @@
-/* The still reader's eight questions, for C and C++. Link libstill_c.a, which `rt staticlib still_c` writes to target/staticlib/
+/* The still reader's nine questions, for C and C++. Link libstill_c.a, which `rt staticlib still_c` writes to target/staticlib/
  * (x86-64 Linux; it needs only memcpy and memset). examples/ask_still.c shows a whole program.
  *
  * What a caller lends (still_transforms reads no file and is lent out alone):
@@ -11,12 +11,12 @@
  * is 0 the pointer is not followed and may be null; out may not.
  * Nothing is kept between calls, nothing is allocated, and every call ends; how much stack a call may take is told
  * below (STILL_STACK_; measured by tests/stack, not proved). Threads may call at once if each lends its own table, list,
- * points and out.
+ * points, body and out.
  *
  * What every call leaves:
  *   out[0], out[1]    the refusal's number and place, and the rest of out 0; or 0 and 0, then the answer's values as told below, and the rest 0
- *   table             after refusal 1 as it was; after 2 to 20 and 29 its first STILL_TABLE_WORDS words are 0; otherwise, 21 to 26 and
- *                     28 too, they are the file's. Words behind them are never written.
+ *   table             after refusal 1 as it was; after 2 to 20 and 29 to 31 its first STILL_TABLE_WORDS words are 0; otherwise, 21 to 26
+ *                     and 28 too, they are the file's. Words behind them are never written.
  */
 #ifndef STILL_H
 #define STILL_H
@@ -32,11 +32,13 @@
 #define STILL_MAX_POINTS 512
 #define STILL_POINT_WORDS 9
 
-/* Bytes of stack that a call was seen to take at most, rounded up. A trace, and points with it, takes most where an item has
- * 254 turns or crops: 62,208. Of the others sources takes 20,360, and size 17,320. */
-#define STILL_STACK_TRACE 64000
-#define STILL_STACK_SOURCES 21000
-#define STILL_STACK_OTHERS 18000
+/* Bytes that still_body must be lent: no body is longer. */
+#define STILL_BODY_MAX 16402
+
+/* Bytes of stack that a call was seen to take at most, rounded up. */
+#define STILL_STACK_TRACE 26000
+#define STILL_STACK_SOURCES 29000
+#define STILL_STACK_OTHERS 26000
 
 /* The most that a file may have; more is refusal 9. An item has at most STILL_MAX_ITEMS sources, so a list of that length is never too short. */
 #define STILL_MAX_ITEMS 256
@@ -51,7 +53,9 @@
 #define STILL_PROPERTIES_AT 4112   /* of 4 words: type, offset in the head, size, 0 */
 #define STILL_ASSOCIATIONS_AT 5136 /* of one: property index from 1, and 32,768 more if it is essential */
 #define STILL_TARGETS_AT 7184      /* of one: an item's ID */
-#define STILL_EXTENTS_AT 9232      /* of 4: offset in the file, high and low; length, high and low */
+#define STILL_EXTENTS_AT 9232      /* of 4: offset, high and low; length, high and low */
+
+/* An extent's offset counts in the file; where the item's method is 2, in the item that the extent names, which the table does not tell. */
 
 /* An item's record. The records stand in rising order of their IDs, compared as unsigned numbers, so that an item is found by halving. All
  * else is in the file's order: properties, associations, targets and extents, and the "first" words count from 0 in that order, 0 where there
@@ -83,8 +87,8 @@ enum still_item {
     STILL_ITEM_PLACE = 15          /* in `iinf`, from 0 */
 };
 
-/* out[0]. The place, out[1], is 0 for 1, 2, 4, 5 and 27; for 3 and 6 to 11 where the box begins in the head; for 12 to 20 and 29 the
- * item's ID; for 21 to 26 and 28 the ID that was asked for. */
+/* out[0]. The place, out[1], is 0 for 1, 2, 4, 5 and 27; for 3 and 6 to 11 where the box begins in the head; for 12 to 20, 29 and 30 the
+ * item's ID; for 21 to 26, 28 and 31 the ID that was asked for. */
 enum still_refusal {
     STILL_ACCEPTED = 0,
     STILL_TABLE_TOO_SHORT = 1,       /* the table that was lent is too short */
@@ -99,8 +103,8 @@ enum still_refusal {
     STILL_FORBIDDEN_VALUE = 10,      /* a repeated ID, a wrong handler, IDs out of order */
     STILL_NAMES_NOTHING = 11,        /* an item or property is named that does not exist */
     STILL_BAD_PRIMARY = 12,          /* the primary item is not listed, no picture, or hidden */
-    STILL_BYTES_ELSEWHERE = 13,      /* an item's bytes lie where this reader does not go: another method, another file, or no length */
-    STILL_BYTES_PAST_THE_END = 14,   /* an item's bytes lie past the end of their source, or a coded picture has none */
+    STILL_BYTES_ELSEWHERE = 13,      /* an item's bytes lie where this reader does not go: a method over 2, another file, or no length */
+    STILL_BYTES_PAST_THE_END = 14,   /* an item's bytes lie past the end of their source (file, `idat` or another item), or a coded picture has none */
     STILL_PROTECTED_OR_UNKNOWN = 15, /* a picture is protected, or needs a property that this reader does not know */
     STILL_SIZE_NOT_SAID_ONCE = 16,   /* a picture does not say its size exactly once, before its turns and crops */
     STILL_BAD_DERIVATION = 17,       /* a derived picture has wrong inputs or a damaged body */
@@ -115,7 +119,9 @@ enum still_refusal {
     STILL_HAS_A_CROP = 26,           /* the item has a crop, which no orientation says */
     STILL_NO_ORIENTATION = 27,       /* an orientation is one of 1 to 8; no file was read */
     STILL_TOO_MANY_POINTS = 28,      /* more than 512 points were asked for at once */
-    STILL_NOT_CONFIGURED = 29        /* an `hvc1` picture does not have exactly one `hvcC`, marked essential */
+    STILL_NOT_CONFIGURED = 29,       /* an `hvc1` picture does not have exactly one `hvcC`, marked essential */
+    STILL_BYTES_WITHOUT_END = 30,    /* an item is made of other items' bytes by a chain that goes round, is more than 8 deep, or lacks a reference */
+    STILL_BODY_TOO_SHORT = 31        /* the buffer that was lent for a body is too short */
 };
 
 /* out[2] of still_trace, and the fifth number of a point's record */
@@ -165,6 +171,12 @@ void still_property(const uint8_t *head, size_t head_len, uint64_t total, uint32
  * nothing, is refused by 26 after 21 and 22. */
 void still_orientation(const uint8_t *head, size_t head_len, uint64_t total, uint32_t *table, size_t table_len, uint32_t item,
                        uint64_t out[STILL_OUT]);
+
+/* The body of an item that is a picture, its extents joined, also where they are made of other items' bytes: out[2] how many bytes it has, 0
+ * for a coded item and for `iden`. It is written to the buffer's first bytes; the others stay as they were, and a refusal writes none. A
+ * buffer of fewer than STILL_BODY_MAX bytes is refused by 31, after 1 and before the file is read, however short the body is. */
+void still_body(const uint8_t *head, size_t head_len, uint64_t total, uint32_t *table, size_t table_len, uint32_t item, uint8_t *body,
+                size_t body_len, uint64_t out[STILL_OUT]);
 
 /* The shortest list of transforms that does what an orientation asks, `irot` first: out[2] how many, 0 to 2; out[3], out[4] the kind and the
  * value of the first; out[5], out[6] those of the second. The value is what the property box holds: `irot` 1 to 3 quarter turns to the left,

@@ -1,4 +1,4 @@
-/* face FILE: what a caller from C may lend, on a file whose primary item 2 needs item 1: null pointers with length 0, a table that is too short, and words, entries and records behind what is written; and in which order the item records stand. */
+/* face FILE JOINED: what a caller from C may lend, on a file whose primary item 2 needs item 1: null pointers with length 0, a table that is too short, and words, entries, records and bytes behind what is written; and in which order the item records stand. JOINED is docs/joined.heif: item 3 is a grid whose body has 8 bytes, in two extents of item 5, which is no picture. */
 #include <stdio.h>
 #include <string.h>
 
@@ -10,6 +10,7 @@ static uint8_t head[STILL_HEAD_MAX];
 static uint32_t table[TABLE];
 static uint32_t list[4];
 static uint32_t points[STILL_MAX_POINTS + 2][STILL_POINT_WORDS];
+static uint8_t body[STILL_BODY_MAX + 20];
 static uint64_t out[STILL_OUT];
 static int wrong;
 
@@ -184,12 +185,98 @@ static void items_exchanged(size_t n)
     told("the first fault", STILL_PROTECTED_OR_UNKNOWN, 2, 0, 0);
 }
 
+/* Whether the bytes of the buffer from one on are as they were lent; and then all of it is spoiled for the next call. */
+static void behind(const char *what, size_t from)
+{
+    size_t i;
+    for (i = from; i < sizeof body; i++) {
+        if (body[i] != 9) {
+            printf("wrong: %s, byte %lu\n", what, (unsigned long)i);
+            wrong = 1;
+            break;
+        }
+    }
+    memset(body, 9, sizeof body);
+}
+
+/* Bodies that are answered: a joined one at the front of the buffer, also of the shortest that will do; none of a coded item. */
+static void body_answered(size_t n)
+{
+    static const uint8_t right[] = {0, 0, 0, 1, 0, 128, 0, 48};
+    size_t lent;
+    for (lent = STILL_BODY_MAX; lent <= sizeof body; lent += sizeof body - STILL_BODY_MAX) {
+        still_body(head, n, n, table, TABLE, 3, body, lent, out);
+        told("a joined body", 0, 0, sizeof right, 0);
+        if (memcmp(body, right, sizeof right) != 0)
+            wrong = 1, printf("wrong: the bytes of a joined body\n");
+        behind("bytes behind the body", sizeof right);
+        kept("the table is the file's", table, 1, 5);
+    }
+    still_body(head, n, n, table, TABLE, 1, body, sizeof body, out);
+    told("the body of a coded item", 0, 0, 0, 0);
+    behind("no body, no bytes", 0);
+    kept("words behind the file's table", table + STILL_TABLE_WORDS, 20, 0x09090909);
+}
+
+/* Refusals: none of them writes to the buffer. 1 comes before 31, and 31 before the file is read. */
+static void body_refused(size_t n)
+{
+    still_body(head, n, n, table, TABLE, 5, body, sizeof body, out);
+    told("the body of an opaque item", STILL_NO_PICTURE, 5, 0, 0);
+    still_body(head, n, n, table, TABLE, 9, body, sizeof body, out);
+    told("the body of no item", STILL_NO_SUCH_ITEM, 9, 0, 0);
+    kept("the table is the file's", table, 1, 5);
+    memset(table, 9, sizeof table);
+    still_body(head, n, n, table, STILL_TABLE_WORDS - 1, 3, body, STILL_BODY_MAX - 1, out);
+    told("a table and a buffer too short", STILL_TABLE_TOO_SHORT, 0, 0, 0);
+    kept("refusal 1 writes nothing", table, TABLE, 0x09090909);
+    still_body(head, n, n, table, TABLE, 3, body, STILL_BODY_MAX - 1, out);
+    told("a buffer of one byte less", STILL_BODY_TOO_SHORT, 3, 0, 0);
+    kept("its table", table, STILL_TABLE_WORDS, 0);
+    kept("words behind it", table + STILL_TABLE_WORDS, 20, 0x09090909);
+    memset(table, 9, sizeof table);
+    still_body(head, n, n - 1, table, TABLE, 1, NULL, 0, out);
+    told("no buffer, and more lent than the file has", STILL_BODY_TOO_SHORT, 1, 0, 0);
+    kept("its table", table, STILL_TABLE_WORDS, 0);
+    still_body(head, n, n - 1, table, TABLE, 3, body, sizeof body, out);
+    told("more lent than the file has", STILL_HEAD_TOO_LONG, 0, 0, 0);
+    still_body(head, 200, 200, table, TABLE, 3, body, sizeof body, out);
+    told("the body in a file cut short", STILL_BAD_BOX_SIZE, 20, 0, 0);
+    kept("a refused file's table", table, STILL_TABLE_WORDS, 0);
+    behind("a refusal writes to no buffer", 0);
+}
+
+/* A chain that returns to itself: the reference of grid 3 names grid 4, and that of 4 names 3. */
+static void chain_refused(size_t n)
+{
+    uint8_t *at = head, item;
+    for (item = 3; item <= 4; item++) {
+        while (memcmp(at, "\0\0\0\016iloc", 8) != 0)
+            at++;
+        at[13] = (uint8_t)(7 - item);
+        at++;
+    }
+    still_verdict(head, n, n, table, TABLE, out);
+    told("a chain that goes round", STILL_BYTES_WITHOUT_END, 3, 0, 0);
+    kept("a refused file's table", table, STILL_TABLE_WORDS, 0);
+}
+
+/* The bytes of a file, of which the head has room for all: how many. */
+static size_t read_all(const char *name)
+{
+    FILE *file = fopen(name, "rb");
+    size_t n = file ? fread(head, 1, sizeof head, file) : 0;
+    if (file)
+        fclose(file);
+    return n;
+}
+
 int main(int argc, char **argv)
 {
-    FILE *file = argc == 2 ? fopen(argv[1], "rb") : NULL;
-    size_t n = file ? fread(head, 1, sizeof head, file) : 0;
+    size_t n = argc == 3 ? read_all(argv[1]) : 0;
     memset(table, 9, sizeof table);
     memset(list, 9, sizeof list);
+    memset(body, 9, sizeof body);
 
     still_verdict(NULL, 0, 0, NULL, 0, out);
     told("verdict, nothing lent", STILL_TABLE_TOO_SHORT, 0, 0, 0);
@@ -205,6 +292,8 @@ int main(int argc, char **argv)
     told("property, nothing lent", STILL_TABLE_TOO_SHORT, 0, 0, 0);
     still_orientation(NULL, 0, 0, NULL, 0, 1, out);
     told("orientation, nothing lent", STILL_TABLE_TOO_SHORT, 0, 0, 0);
+    still_body(NULL, 0, 0, NULL, 0, 1, NULL, 0, out);
+    told("body, nothing lent", STILL_TABLE_TOO_SHORT, 0, 0, 0);
     still_verdict(head, n, n, table, STILL_TABLE_WORDS - 1, out);
     told("a table of one word less", STILL_TABLE_TOO_SHORT, 0, 0, 0);
     kept("refusal 1 writes nothing", table, TABLE, 0x09090909);
@@ -237,5 +326,11 @@ int main(int argc, char **argv)
     points_refused(n);
     transforms();
     items_exchanged(n);
+    if (argc == 3) {
+        n = read_all(argv[2]);
+        body_answered(n);
+        body_refused(n);
+        chain_refused(n);
+    }
     return wrong;
 }

@@ -8,9 +8,9 @@
 
 #include "still.h"
 
-enum { VERDICT, SIZE, TRACE, POINTS, SOURCES, PROPERTY, ORIENTATION, TRANSFORMS, QUESTIONS, NOTHING = QUESTIONS };
+enum { VERDICT, SIZE, TRACE, POINTS, SOURCES, PROPERTY, ORIENTATION, TRANSFORMS, BODY, QUESTIONS, NOTHING = QUESTIONS };
 
-static const char *const NAMES[QUESTIONS] = {"verdict", "size", "trace", "points", "sources", "property", "orientation", "transforms"};
+static const char *const NAMES[QUESTIONS] = {"verdict", "size", "trace", "points", "sources", "property", "orientation", "transforms", "body"};
 static const size_t ROOM = 1u << 20;
 static const unsigned char PAINT = 0xa5;
 
@@ -18,6 +18,7 @@ static unsigned char *stack;
 static uint8_t head[STILL_HEAD_MAX];
 static size_t length;
 static uint32_t table[STILL_TABLE_WORDS], list[STILL_MAX_ITEMS], points[STILL_MAX_POINTS * STILL_POINT_WORDS];
+static uint8_t body[STILL_BODY_MAX];
 static int asked;
 static uint32_t item;
 
@@ -33,6 +34,7 @@ static void *ask(void *nothing)
     case PROPERTY: still_property(head, length, length, table, STILL_TABLE_WORDS, item, 1, out); break;
     case ORIENTATION: still_orientation(head, length, length, table, STILL_TABLE_WORDS, item, out); break;
     case TRANSFORMS: still_transforms(item % 10, out); break;
+    case BODY: still_body(head, length, length, table, STILL_TABLE_WORDS, item, body, STILL_BODY_MAX, out); break;
     default: break;
     }
     return nothing;

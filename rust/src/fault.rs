@@ -44,8 +44,8 @@ faults! {
     ForbiddenValue = 10, "a repeated ID, a wrong handler, IDs out of order";
     NamesNothing = 11, "an item or property is named that does not exist";
     BadPrimary = 12, "the primary item is not listed, no picture, or hidden";
-    BytesElsewhere = 13, "an item's bytes lie where this reader does not go: another method, another file, or no length";
-    BytesPastTheEnd = 14, "an item's bytes lie past the end of their source, or a coded picture has none";
+    BytesElsewhere = 13, "an item's bytes lie where this reader does not go: a method over 2, another file, or no length";
+    BytesPastTheEnd = 14, "an item's bytes lie past the end of their source (file, `idat` or another item), or a coded picture has none";
     ProtectedOrUnknown = 15, "a picture is protected, or needs a property that this reader does not know";
     SizeNotSaidOnce = 16, "a picture does not say its size exactly once, before its turns and crops";
     BadDerivation = 17, "a derived picture has wrong inputs or a damaged body";
@@ -61,9 +61,11 @@ faults! {
     NoOrientation = 27, "an orientation is one of 1 to 8";
     TooManyPoints = 28, "more than 512 points were asked for at once";
     NotConfigured = 29, "an `hvc1` picture does not have exactly one `hvcC`, marked essential";
+    BytesWithoutEnd = 30, "an item is made of other items' bytes by a chain that goes round, is more than 8 deep, or lacks a reference";
+    BodyTooShort = 31, "the buffer that was lent for a body is too short";
 }
 
-/// A refusal and its place: 0 for 1, 2, 4, 5 and 27; where the box begins in the head for 3 and 6 to 11; the item's ID for 12 to 20 and 29; the ID that was asked for for 21 to 26 and 28.
+/// A refusal and its place: 0 for 1, 2, 4, 5 and 27; where the box begins in the head for 3 and 6 to 11; the item's ID for 12 to 20, 29 and 30; the ID that was asked for for 21 to 26, 28 and 31.
 #[derive(Clone, Copy, Debug, PartialEq, Eq)]
 pub struct Refusal {
     pub fault: Fault,

@@ -11,6 +11,7 @@ extern "C" {
     fn still_sources(head: *const u8, head_len: usize, total: u64, table: *mut u32, table_len: usize, item: u32, list: *mut u32, list_len: usize, out: *mut [u64; OUT]);
     fn still_property(head: *const u8, head_len: usize, total: u64, table: *mut u32, table_len: usize, item: u32, k: u32, out: *mut [u64; OUT]);
     fn still_orientation(head: *const u8, head_len: usize, total: u64, table: *mut u32, table_len: usize, item: u32, out: *mut [u64; OUT]);
+    fn still_body(head: *const u8, head_len: usize, total: u64, table: *mut u32, table_len: usize, item: u32, body: *mut u8, body_len: usize, out: *mut [u64; OUT]);
     fn still_transforms(orientation: u32, out: *mut [u64; OUT]);
 }
 
@@ -177,6 +178,24 @@ impl<'a> Still<'a> {
     pub fn orientation(self, table: &mut Table, item: ItemId) -> Result<u8, Refusal> {
         let [number, ..] = ask!(still_orientation, self, table, item.0)?;
         Ok(number as u8)
+    }
+
+    /// The body of an item that is a picture, its extents joined, also where they are made of other items' bytes: the front of the buffer that is lent, which must have
+    /// [`BODY_MAX`](crate::BODY_MAX) bytes however short the body is. Empty for a coded item and for `iden`. A refusal writes nothing to the buffer.
+    ///
+    /// ```no_run
+    /// # use still::{ItemId, Refusal, Still, Table, BODY_MAX};
+    /// # fn canvas(still: Still, table: &mut Table) -> Result<(), Refusal> {
+    /// let mut room = [0; BODY_MAX];
+    /// if let [0, 0, rows, columns, ..] = still.body(table, ItemId(3), &mut room)? {
+    ///     println!("{} rows, {} columns", *rows as u32 + 1, *columns as u32 + 1);
+    /// }
+    /// # Ok(())
+    /// # }
+    /// ```
+    pub fn body<'l>(self, table: &mut Table, item: ItemId, room: &'l mut [u8]) -> Result<&'l [u8], Refusal> {
+        let [length, ..] = ask!(still_body, self, table, item.0, room.as_mut_ptr(), room.len())?;
+        Ok(&room[..length as usize])
     }
 }
 

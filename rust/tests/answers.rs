@@ -55,6 +55,12 @@ fn refusal(r: Refusal) -> String {
     format!("refused {} {}", r.fault as u8, r.place)
 }
 
+// The length of a body, then its bytes in hex.
+fn bytes(body: &[u8]) -> String {
+    let hex: String = body.iter().map(|b| format!("{b:02x}")).collect();
+    format!("{} {hex}", body.len()).trim_end().into()
+}
+
 // How many points there are, then the answer of each.
 fn points(still: Still, table: &mut Table, item: ItemId, points: &mut [Point]) -> Result<String, Refusal> {
     let answers = still.points(table, item, points)?;
@@ -73,6 +79,7 @@ fn answer(input: &mut Input, still: Still, table: &mut Table, kind: u32, id: u32
         5 => (format!("prop\t{id} {x}"), still.property(table, item, x).map(|p| numbers(&[p.len() as u32, sum_of(p)]))),
         6 => (format!("orientation\t{id}"), still.orientation(table, item).map(|n| n.to_string())),
         7 => (format!("transforms\t{id}"), transforms(id).map(list)),
+        9 => (format!("body\t{id} {x}"), still.body(table, item, &mut vec![9; x as usize]).map(bytes)),
         _ => {
             let mut seam: Vec<_> = (0..x).map(|_| Point::new(input.word(), input.word())).collect();
             let asked: String = seam.iter().map(|p| format!(" {} {}", p.x, p.y)).collect();

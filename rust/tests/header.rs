@@ -45,4 +45,5 @@ fn limits() {
     defines("MAX_TARGETS", still::MAX_TARGETS);
     defines("MAX_EXTENTS", still::MAX_EXTENTS);
     defines("MAX_POINTS", still::MAX_POINTS);
+    defines("BODY_MAX", still::BODY_MAX);
 }

@@ -1,10 +1,12 @@
 //! The questions on a file of two items: a picture of 640 × 480, and a copy of it turned a quarter to the left.
 #![cfg(still_linked)]
-use still::{transforms, End, Fault, ItemId, Point, Refusal, Size, Still, Table, Trace, Transform, Verdict, MAX_POINTS, TABLE_WORDS};
+use still::{transforms, End, Fault, ItemId, Point, Refusal, Size, Still, Table, Trace, Transform, Verdict, BODY_MAX, MAX_POINTS, TABLE_WORDS};
 
 static FILE: &[u8] = include_bytes!("../../crates/listing/stdin");
 // README's example: item 9 has a crop, item 8 is turned to the right and then mirrored.
 static CROPPED: &[u8] = include_bytes!("../../docs/example.heif");
+// Items 3 and 4 are grids, and each body has two extents in item 5, which is no picture.
+static JOINED: &[u8] = include_bytes!("../../docs/joined.heif");
 
 fn refused<T>(fault: Fault, place: u64) -> Result<T, Refusal> {
     Err(Refusal { fault, place })
@@ -112,6 +114,40 @@ fn an_item_without_its_decoder_configuration() {
         assert_eq!(Still::of(&file).verdict(&mut table), refused(Fault::NotConfigured, place));
         assert_eq!(table.words(), &[0; TABLE_WORDS]);
     }
+}
+
+#[test]
+fn a_body_joined_from_another_item() {
+    let (still, mut table, mut room) = (Still::of(JOINED), Table::new(), [9; BODY_MAX + 1]);
+    assert_eq!(still.body(&mut table, ItemId(3), &mut room), Ok(&[0, 0, 0, 1, 0, 128, 0, 48][..]));
+    assert_eq!(room[8..], [9; BODY_MAX - 7]);
+    assert_eq!(still.body(&mut table, ItemId(4), &mut room[..BODY_MAX]), Ok(&[0, 0, 1, 0, 0, 64, 0, 96][..]));
+    assert_eq!(still.body(&mut table, ItemId(1), &mut room), Ok(&[][..]));
+    assert_eq!(Still::of(FILE).body(&mut table, ItemId(2), &mut room), Ok(&[][..]));
+}
+
+#[test]
+fn bodies_that_are_refused() {
+    let (still, mut table, mut room) = (Still::of(JOINED), Table::new(), [9; BODY_MAX]);
+    assert_eq!(still.body(&mut table, ItemId(5), &mut room), refused(Fault::NoPicture, 5));
+    assert_eq!(still.body(&mut table, ItemId(6), &mut room), refused(Fault::NoSuchItem, 6));
+    assert_eq!(table.words()[0], 5, "the table is the file's");
+    assert_eq!(still.body(&mut table, ItemId(3), &mut room[1..]), refused(Fault::BodyTooShort, 3));
+    assert_eq!(table.words(), &[0; TABLE_WORDS]);
+    assert_eq!(Still::of(&[]).body(&mut table, ItemId(3), &mut []), refused(Fault::BodyTooShort, 3));
+    assert_eq!(Still::of(&[]).body(&mut table, ItemId(3), &mut room), refused(Fault::NotAStill, 0));
+    assert_eq!(room, [9; BODY_MAX], "a refusal writes nothing");
+}
+
+#[test]
+fn a_chain_of_items_that_goes_round() {
+    // The `iloc` reference of grid 3 names grid 4 instead of item 5, and that of 4 names 3.
+    let (mut file, mut table) = (JOINED.to_vec(), Table::new());
+    let found: Vec<_> = (0..file.len() - 8).filter(|&at| file[at..].starts_with(b"\0\0\0\x0eiloc")).collect();
+    assert_eq!(found.len(), 2);
+    (file[found[0] + 13], file[found[1] + 13]) = (4, 3);
+    assert_eq!(Still::of(&file).verdict(&mut table), refused(Fault::BytesWithoutEnd, 3));
+    assert_eq!(table.words(), &[0; TABLE_WORDS]);
 }
 
 #[test]

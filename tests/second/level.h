@@ -4,7 +4,7 @@
 #define LEVEL_H
 
 #ifndef LEVEL
-#define LEVEL 6
+#define LEVEL 7
 #endif
 
 #endif

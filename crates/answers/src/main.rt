@@ -1,9 +1,10 @@
 // Answers questions about many heads: reads them from standard input and prints a line for each, as in the files with the right answers.
 // The input: how many heads (4 bytes); for each its name (length in 4 bytes, then the letters), the file's total (8),
 // its bytes (length in 4, then the bytes), how many questions (4); for each question its kind (4: 0 verdict, 1 table, 2
-// size, 3 trace, 4 sources, 5 property, 6 orientation, 7 transforms, 8 points), an item ID, or the orientation for 7 (4),
+// size, 3 trace, 4 sources, 5 property, 6 orientation, 7 transforms, 8 points, 9 body), an item ID, or the orientation for 7 (4),
 // and two numbers (4 each); for 8 the first is how many points, and x and y of each follow (4 each).
 // The table is never cleared between calls, and has 20 words more than it needs.
+mod body;
 mod points;
 
 ghost use mathlib.Core.Path.{_≡_};
@@ -264,7 +265,8 @@ fn answer(name: &[u8], head: &[u8], total: u64, table: &mut [u32]) {
         5 => print_property(head, total, table, id, x),
         6 => print_orientation(head, total, table, id),
         7 => print_transforms(id),
-        _ => points::print_points(head, total, table, id, x),
+        8 => points::print_points(head, total, table, id, x),
+        _ => body::print_body(head, total, table, id, x),
     }
 }
 

@@ -72,6 +72,7 @@ pub enum Word {
     Orientation,
     Transforms,
     Points,
+    Body,
     Unknown,
 }
 
@@ -116,6 +117,9 @@ fn later_word_of(s: &[u8]) -> Word
     if is_word(s, b"points") {
         return Word::Points;
     }
+    if is_word(s, b"body") {
+        return Word::Body;
+    }
     Word::Unknown
 }
 
@@ -134,6 +138,7 @@ pub fn numbers_of(w: Word) -> usize
         Word::Orientation => 1,
         Word::Transforms => 1,
         Word::Points => 5,
+        Word::Body => 1,
         Word::Unknown => 0,
     }
 }
@@ -153,6 +158,7 @@ pub fn may_be_alone(w: Word) -> bool
         Word::Orientation => true,
         Word::Transforms => false,
         Word::Points => false,
+        Word::Body => false,
         Word::Unknown => true,
     }
 }

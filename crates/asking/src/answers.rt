@@ -145,7 +145,8 @@ pub fn print_sources(head: &[u8], total: u64, table: &mut [u32], id: u32) {
     }
 }
 
-fn print_bytes(part: &[u8]) {
+// In hex.
+pub fn print_bytes(part: &[u8]) {
     let mut i: usize = 0;
     while i < part.len() {
         io::print_hex(1, fields::be8(part, i) as u64, 2);

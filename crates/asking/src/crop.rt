@@ -39,10 +39,10 @@ fn print_found(head: &[u8], total: u64, table: &[u32], id: u32) {
 }
 
 // Room for the rows that reading finds.
-fn new_rows() -> [u32; 2304]
-    ensures { λ r. ⌜ 2304 ≡ length r ⌝ }
+fn new_rows() -> [u32; 2816]
+    ensures { λ r. ⌜ 2816 ≡ length r ⌝ }
 {
-    [0; 2304]
+    [0; 2816]
 }
 
 // Reads the file again, without judging it.

@@ -1,6 +1,7 @@
 // The asking program: a still on standard input (`transforms` reads none), a question in the arguments, fields parted by tabs
 // as the answer, in one line; of `crop` and `points` in several.
 mod answers;
+mod body;
 mod crop;
 mod points;
 
@@ -139,6 +140,7 @@ fn print_answer(q: Question, head: &[u8], total: u64) {
         }
         Word::Transforms => answers::print_transforms(n.id),
         Word::Points => points::print_points(head, total, &mut table, n.id, seam_of(n)),
+        Word::Body => body::print_body(head, total, &mut table, n.id),
         Word::Unknown => print_use(),
     }
 }

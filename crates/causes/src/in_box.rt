@@ -8,6 +8,8 @@ use words::say;
 
 const INFE: u32 = 0x696e6665;
 
+const ILOC: u32 = 0x696c6f63;
+
 // Where a place lies in the file.
 enum Region {
     // Outside `meta`, or `meta` is not to be found.
@@ -346,15 +348,20 @@ fn print_handler(fd: i32, head: &[u8], at: usize) {
     say(fd, b", and a still has pict");
 }
 
-// An ID twice, or a box of another type in a row of `infe`.
-fn print_entry(fd: i32, head: &[u8], at: usize) {
+// The type of the box at a place, 0 where it is not there.
+fn kind_at(head: &[u8], at: usize) -> u32 {
     if head.len() < 8 {
-        return words::print_words(fd, 10);
+        return 0;
     }
     if head.len() - 8 < at {
-        return words::print_words(fd, 10);
+        return 0;
     }
-    if fields::be32(head, at + 4) == INFE {
+    fields::be32(head, at + 4)
+}
+
+// An ID twice, or a box of another type in a row of `infe`.
+fn print_entry(fd: i32, head: &[u8], at: usize) {
+    if kind_at(head, at) == INFE {
         return say(fd, b"has an ID that an item before it has");
     }
     say(fd, b"stands where an `infe` must");
@@ -399,6 +406,14 @@ fn print_location(fd: i32, head: &[u8], at: usize) {
     say(fd, b"has a field size that is not 0, 4 or 8");
 }
 
+// 10 of a reference: `dimg` names targets, and an item has one `dimg` and one `iloc` reference at most.
+fn print_reference(fd: i32, head: &[u8], at: usize) {
+    if kind_at(head, at) == ILOC {
+        return say(fd, b"is the second `iloc` reference of its item");
+    }
+    say(fd, b"names no targets, or is the second `dimg` of its item");
+}
+
 // 10.
 fn print_forbidden(fd: i32, head: &[u8], at: usize, r: Region) {
     match r {
@@ -406,7 +421,7 @@ fn print_forbidden(fd: i32, head: &[u8], at: usize, r: Region) {
         Region::InIinf => print_entry(fd, head, at),
         Region::Iloc => print_location(fd, head, at),
         Region::Ipma => say(fd, b"has IDs that do not rise"),
-        Region::InIref => say(fd, b"names no targets, or is the second `dimg` of its item"),
+        Region::InIref => print_reference(fd, head, at),
         _ => words::print_words(fd, 10),
     }
 }

@@ -1,6 +1,7 @@
-// Refusals 12 to 17, 22 and 29: what the table says of the item, as far as it was read.
+// Refusals 12 to 17, 22, 29 and 30: what the table says of the item, as far as it was read.
 ghost use mathlib.Core.Path.{_≡_};
 ghost use lib.ListN.{length};
+use crate::chain;
 use boxes::Refusal;
 use reading::FileRead;
 use records::FoundRow;
@@ -12,6 +13,14 @@ const HVCC: u32 = 0x68766343;
 
 const ISPE: u32 = 0x69737065;
 
+const IDEN: u32 = 0x6964656e;
+
+// The longest body.
+const LONGEST: u64 = 16402;
+
+// As many bytes of a file are looked at.
+const HEAD: u64 = 65536;
+
 // Room for what reading fills.
 fn new_table() -> [u32; 11280]
     ensures { λ r. ⌜ 11280 ≡ length r ⌝ }
@@ -19,10 +28,10 @@ fn new_table() -> [u32; 11280]
     [0; 11280]
 }
 
-fn new_rows() -> [u32; 2304]
-    ensures { λ r. ⌜ 2304 ≡ length r ⌝ }
+fn new_rows() -> [u32; 2816]
+    ensures { λ r. ⌜ 2816 ≡ length r ⌝ }
 {
-    [0; 2304]
+    [0; 2816]
 }
 
 fn print_type(fd: i32, table: &[u32], row: ItemRow) {
@@ -42,10 +51,10 @@ fn print_primary(fd: i32, table: &[u32], row: ItemRow) {
 // 13: another method, another file, or an extent of length 0.
 fn print_method(fd: i32, table: &[u32], row: ItemRow) {
     let method = views::record_word(table, row, 9);
-    if 1 < method {
+    if 2 < method {
         say(fd, b"has its bytes by method ");
         io::print_decimal(fd, method as u64);
-        return say(fd, b", and this reader goes by 0 and 1");
+        return say(fd, b", and this reader goes by 0, 1 and 2");
     }
     if views::record_word(table, row, 10) != 0 {
         return say(fd, b"has its bytes in another file");
@@ -54,12 +63,15 @@ fn print_method(fd: i32, table: &[u32], row: ItemRow) {
 }
 
 // 14: no bytes, or bytes past an end.
-fn print_reach(fd: i32, table: &[u32], row: ItemRow, total: u64) {
+fn print_reach(fd: i32, table: &[u32], rows: &[u32], row: ItemRow, total: u64) {
     if views::record_word(table, row, 8) == 0 {
         return say(fd, b"is a coded picture that has no bytes");
     }
     if views::record_word(table, row, 9) == 1 {
         return say(fd, b"has bytes past the end of `idat`");
+    }
+    if views::record_word(table, row, 9) == 2 {
+        return chain::print_past(fd, table, rows, row);
     }
     say(fd, b"has bytes past the end of the file, which has ");
     io::print_decimal(fd, total);
@@ -166,8 +178,32 @@ fn print_size(fd: i32, table: &[u32], row: ItemRow) {
     say(fd, b"`");
 }
 
+// 17 of a picture whose inputs are pictures: no body, one too long, one that may not be; else the number of inputs, or what the body says.
+fn print_body(fd: i32, table: &[u32], row: ItemRow, total: u64) {
+    let extents = views::record_word(table, row, 8);
+    if views::type_of(table, row) == IDEN {
+        if 0 < extents {
+            return say(fd, b"is a copy of its input, and has bytes of its own");
+        }
+        return say(fd, b"is a copy, and has more than one input");
+    }
+    if extents == 0 {
+        return say(fd, b"has no body");
+    }
+    let size = joining::length_of(table, row);
+    if LONGEST < size {
+        say(fd, b"has a body of ");
+        io::print_decimal(fd, size);
+        return say(fd, b" bytes, and none has more than 16,402");
+    }
+    say(fd, b"has a wrong number of inputs, or a damaged body");
+    if HEAD < total {
+        say(fd, b", or one that is not wholly in the first 65,536 bytes");
+    }
+}
+
 // 17: inputs where there may be none, none where there must be, one that is no picture; else their number or the body.
-fn print_inputs(fd: i32, table: &[u32], row: ItemRow) {
+fn print_inputs(fd: i32, table: &[u32], row: ItemRow, total: u64) {
     let n = views::record_word(table, row, 6) as usize;
     if !views::is_derived(views::type_of(table, row)) {
         say(fd, b"has inputs, and its type ");
@@ -184,28 +220,29 @@ fn print_inputs(fd: i32, table: &[u32], row: ItemRow) {
         io::print_decimal(fd, id.0 as u64);
         return say(fd, b", which is no picture");
     }
-    say(fd, b"has a wrong number of inputs, or a damaged body");
+    print_body(fd, table, row, total);
 }
 
-fn print_of(fd: i32, table: &[u32], row: ItemRow, total: u64, number: u32) {
+fn print_of(fd: i32, table: &[u32], rows: &[u32], row: ItemRow, total: u64, number: u32) {
     match number {
         12 => print_primary(fd, table, row),
         13 => print_method(fd, table, row),
-        14 => print_reach(fd, table, row, total),
+        14 => print_reach(fd, table, rows, row, total),
         15 => print_need(fd, table, row),
         16 => print_size(fd, table, row),
-        17 => print_inputs(fd, table, row),
+        17 => print_inputs(fd, table, row, total),
         22 => print_type(fd, table, row),
         29 => print_configuration(fd, table, row),
+        30 => chain::print_chain(fd, table, rows, row),
         _ => words::print_words(fd, number),
     }
 }
 
-fn print_listed(fd: i32, table: &[u32], total: u64, f: Refusal) {
+fn print_listed(fd: i32, table: &[u32], rows: &[u32], total: u64, f: Refusal) {
     let id = ItemId((f.place % 4294967296) as u32);
     let found = views::row_named(table, id, ItemRow(0));
     match found {
-        FoundRow::At(row) => print_of(fd, table, row, total, f.number),
+        FoundRow::At(row) => print_of(fd, table, rows, row, total, f.number),
         // 12 and 21.
         FoundRow::Nothing => say(fd, b"is not listed"),
     }
@@ -221,6 +258,6 @@ pub fn print_cause(fd: i32, head: &[u8], total: u64, f: Refusal) {
         FileRead::Is {
             idat: _,
             idat_end: _,
-        } => print_listed(fd, &table, total, f),
+        } => print_listed(fd, &table, &rows, total, f),
     }
 }

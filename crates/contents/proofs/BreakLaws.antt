@@ -49,6 +49,7 @@ use Rattle.contents.specs.Pitm.{pitm-form}
 use Rattle.contents.specs.Iinf.{idsOf, items}
 use Rattle.contents.specs.Iloc.{iloc-form}
 use Rattle.contents.specs.Iprp.{iprp-content}
+use Rattle.contents.specs.Iref.{noReferences}
 use Rattle.contents.specs.File.{File, referred, contentsOf, fileOf, readFile}
 use Rattle.contents.specs.Keeps.{FileIn}
 use Rattle.contents.specs.Breaks.{
@@ -149,7 +150,7 @@ pub record RefersTo (ids : List ℕ) (at : ℕ) (bs : List (List ℕ)) (n q : �
 referred-broken : (ids : List ℕ) (at : ℕ) (bs l : List (List ℕ)) (n q : ℕ) → ofKind iref bs ≡ l → length l ≤ 1 →
     referred ids (placeOf iref at bs) l ≡ refuse n q → RefersTo ids at bs n q
 unfolding referred
-referred-broken ids at bs [] n q i h e = not-refused [] n q e
+referred-broken ids at bs [] n q i h e = not-refused noReferences n q e
 referred-broken ids at bs (b ∷ cs) n q i h e =
     record {
       box = b;

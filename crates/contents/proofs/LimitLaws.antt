@@ -6,10 +6,10 @@ use mathlib.Core.List.{List, [], _∷_}
 use mathlib.Core.Bool.{true, false}
 use lib.ListN.{length, length-append}
 use lib.Dec.{eqb}
-use borrow.Author.Tests.{leb-true, not-true}
+use borrow.Author.Tests.{leb-true, not-true, eqb-true}
 use Rattle.fields.specs.Lists.{member}
 use Rattle.fields.proofs.FieldLaws.{both}
-use Rattle.boxes.specs.Types.{dimg}
+use Rattle.boxes.specs.Types.{dimg, iloc}
 use Rattle.boxes.specs.Box.{kindOf}
 use Rattle.boxes.specs.Children.{Through}
 use Rattle.forms.specs.Form.{give, demand, _>>=_}
@@ -17,7 +17,7 @@ use Rattle.forms.proofs.ManyLaws.{many-length, many-keeps}
 use Rattle.contents.specs.Iinf.{Item, idsOf, infe-form, iinf-count}
 use Rattle.contents.specs.Iloc.{Location, extentsIn, entry-form, iloc-form}
 use Rattle.contents.specs.Ipma.{IpmaEntry, associationsIn, ipma-entry-form, ipma-form}
-use Rattle.contents.specs.Iref.{Derivation, targetsIn, reference-form}
+use Rattle.contents.specs.Iref.{Reference, IrefContent, noReferences, targetsIn, reference-form, keptBy}
 use Rattle.contents.specs.Keeps.{ItemStep, Items, ReferenceStep, Referred}
 use Rattle.contents.proofs.SumLaws.{extents-more, associations-more, targets-more}
 
@@ -82,28 +82,34 @@ associations-few ids most s ns h =
     (omega arith) (h .then .then .then)
 
 -- targetsIn
-reference-room : (ids : List ℕ) (bytes : ℕ) (before : List Derivation) (u : List ℕ) (d : Derivation) →
-    reference-form ids bytes true before .Spells u d → targetsIn before + length (d .targets) ≤ 2048
+reference-room : (ids : List ℕ) (bytes : ℕ) (before : IrefContent) (u : List ℕ) (d : Reference) →
+    reference-form ids bytes dimg before .Spells u d → targetsIn (before .derivations) + length (d .targets) ≤ 2048
 unfolding reference-form _>>=_ demand give
 reference-room ids bytes before u d s =
     let t = s .then .then .then in
     let w = t .then .then .then in
     let k = many-length _ (t .value) [] (w .left) (w .value) (w .first) in
-    rw (w .then .1) (omega (arith, leb-true (targetsIn before + t .value) 2048 (t .then .then .first .1)))
+    rw (w .then .1) (omega (arith, leb-true (targetsIn (before .derivations) + t .value) 2048 (t .then .then .first .1)))
 
-reference-keeps : (ids : List ℕ) (bytes : ℕ) (before : List Derivation) (b : List ℕ) (after : List Derivation) →
-    targetsIn before ≤ 2048 → ReferenceStep ids bytes before b after → targetsIn after ≤ 2048
+reference-keeps : (ids : List ℕ) (bytes : ℕ) (before : IrefContent) (b : List ℕ) (after : IrefContent) →
+    targetsIn (before .derivations) ≤ 2048 → ReferenceStep ids bytes before b after → targetsIn (after .derivations) ≤ 2048
+unfolding keptBy
 reference-keeps ids bytes before b after p r =
     rw (r .kept)
-    (both (λ (l : List Derivation). targetsIn l ≤ 2048) (eqb (kindOf b) dimg) _ _
-    (λ e. rw (targets-more before (r .value)) (reference-room ids bytes before _ (r .value) (rw e at (r .spells)))) (λ e. p))
+    (both Few (eqb (kindOf b) dimg) _ _
+    (λ e. rw (targets-more (before .derivations) (r .value)) (reference-room ids bytes before _ (r .value) (rw (eqb-true (kindOf b) dimg e) at (r .spells))))
+    (λ e. both Few (eqb (kindOf b) iloc) _ _ (λ i. p) (λ i. p)))
+  where
+    Few : IrefContent → Type 0
+    Few c = targetsIn (c .derivations) ≤ 2048
 
-pub references-few : (ids : List ℕ) (bytes : ℕ) (bs : List (List ℕ)) (ds : List Derivation) → Through (ReferenceStep ids bytes) [] bs ds → targetsIn ds ≤ 2048
+pub references-few : (ids : List ℕ) (bytes : ℕ) (bs : List (List ℕ)) (c : IrefContent) → Through (ReferenceStep ids bytes) noReferences bs c →
+    targetsIn (c .derivations) ≤ 2048
 unfolding targetsIn
-references-few ids bytes bs ds h = through-keeps (λ (l : List Derivation). targetsIn l ≤ 2048)
-    (ReferenceStep ids bytes) (reference-keeps ids bytes) [] bs ds (omega arith) h
+references-few ids bytes bs c h = through-keeps (λ (l : IrefContent). targetsIn (l .derivations) ≤ 2048)
+    (ReferenceStep ids bytes) (reference-keeps ids bytes) noReferences bs c (omega arith) h
 
-pub targets-few : (ids : List ℕ) (bs : List (List ℕ)) (ds : List Derivation) → Referred ids bs ds → targetsIn ds ≤ 2048
+pub targets-few : (ids : List ℕ) (bs : List (List ℕ)) (c : IrefContent) → Referred ids bs c → targetsIn (c .derivations) ≤ 2048
 unfolding targetsIn
-targets-few ids [] ds e = rw e (omega arith)
-targets-few ids (b ∷ bs) ds h = references-few ids _ (h .then .boxes) ds (h .then .through)
+targets-few ids [] c e = rw e (omega arith)
+targets-few ids (b ∷ bs) c h = references-few ids _ (h .then .boxes) c (h .then .through)

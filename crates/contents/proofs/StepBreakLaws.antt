@@ -42,7 +42,7 @@ use Rattle.contents.specs.Iinf.{Item, infe-form, infe-step, iinf-count, 
 use Rattle.contents.specs.Ipco.{ispe-form, bytes-form, good-content, property-step}
 use Rattle.contents.specs.Ipma.{ipma-form}
 use Rattle.contents.specs.Iprp.{Pair, anyBox, pairOf, iprp-content}
-use Rattle.contents.specs.Iref.{Derivation, reference-form, reference, references}
+use Rattle.contents.specs.Iref.{IrefContent, noReferences, reference-form, reference, references}
 use Rattle.contents.specs.Keeps.{ItemStep, PropertyStep, ReferenceStep}
 use Rattle.contents.specs.Breaks.{
   InfeBreaks,
@@ -248,18 +248,18 @@ module _ (ids : List ℕ) (p at : ℕ) (s : List ℕ) (n q : ℕ) where
 
 -- iref
 module _ (ids : List ℕ) where
-  reference-broken : (bytes at : ℕ) (before : List Derivation) (b : List ℕ) (n q : ℕ) → reference ids bytes at before b ≡ refuse n q →
+  reference-broken : (bytes at : ℕ) (before : IrefContent) (b : List ℕ) (n q : ℕ) → reference ids bytes at before b ≡ refuse n q →
       (q ≡ at) × ReferenceBreaks ids bytes before b n
   unfolding reference
   reference-broken bytes at before b n q e =
-      with-refuse _ _ n q e (whole-broken (reference-form ids bytes (eqb (kindOf b) dimg) before) at _ n q)
+      with-refuse _ _ n q e (whole-broken (reference-form ids bytes (kindOf b) before) at _ n q)
       (λ d x y. not-refused _ n q y)
 
-  broken-reference : (bytes at : ℕ) (before : List Derivation) (b : List ℕ) (n : ℕ) → ReferenceBreaks ids bytes before b n →
+  broken-reference : (bytes at : ℕ) (before : IrefContent) (b : List ℕ) (n : ℕ) → ReferenceBreaks ids bytes before b n →
       reference ids bytes at before b ≡ refuse n at
   unfolding reference
   broken-reference bytes at before b n h =
-      refuse-bind _ n at (broken-whole (reference-form ids bytes (eqb (kindOf b) dimg) before) at _ n h) _
+      refuse-bind _ n at (broken-whole (reference-form ids bytes (kindOf b) before) at _ n h) _
 
   reference-steps : (bytes : ℕ) → Follows (ReferenceStep ids bytes) (ReferenceBreaks ids bytes) (reference ids bytes)
   reference-steps bytes = record {
@@ -274,13 +274,13 @@ module _ (ids : List ℕ) where
     unfolding references
     references-broken e =
         lead-broken _ _ (full (upto 1)) p at s n q (λ h a r x.
-        contain-broken (reference ids (idBytes (h .version))) (reference-steps (idBytes (h .version))) p a [] r n q x) e
+        contain-broken (reference ids (idBytes (h .version))) (reference-steps (idBytes (h .version))) p a noReferences r n q x) e
 
     pub broken-references : IrefBreaks ids p at s n q → references ids p at s ≡ refuse n q
     unfolding references
     broken-references h =
         broken-lead _ _ (full (upto 1)) p at s n q (λ h a r x.
-        broken-contain (reference ids (idBytes (h .version))) (reference-steps (idBytes (h .version))) p a [] r n q x) h
+        broken-contain (reference ids (idBytes (h .version))) (reference-steps (idBytes (h .version))) p a noReferences r n q x) h
 
 -- meta: doubles
 twice-to : (c : Bool) (l : List (List ℕ)) → not (c && filled l) ≡ false → (c ≡ true) × (l ≡ [] → ⊥)

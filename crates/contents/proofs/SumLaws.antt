@@ -7,7 +7,7 @@ use lib.ListN.{length}
 use Rattle.contents.specs.Iinf.{Item, idsOf}
 use Rattle.contents.specs.Iloc.{Location, locatedIn, extentsIn}
 use Rattle.contents.specs.Ipma.{IpmaEntry, associationsIn}
-use Rattle.contents.specs.Iref.{Derivation, targetsIn}
+use Rattle.contents.specs.Iref.{Reference, targetsIn}
 
 pub ids-more : (is : List Item) (i : Item) → idsOf (is ++ (i ∷ [])) ≡ idsOf is ++ (i .id ∷ [])
 ids-more is i = map-append (λ (j : Item). j .id) is (i ∷ [])
@@ -25,7 +25,7 @@ unfolding associationsIn
 associations-more [] n = omega arith
 associations-more (m ∷ ns) n = rw (associations-more ns n) (omega arith)
 
-pub targets-more : (ds : List Derivation) (d : Derivation) → targetsIn (ds ++ (d ∷ [])) ≡ targetsIn ds + length (d .targets)
+pub targets-more : (ds : List Reference) (d : Reference) → targetsIn (ds ++ (d ∷ [])) ≡ targetsIn ds + length (d .targets)
 unfolding targetsIn
 targets-more [] d = omega arith
 targets-more (e ∷ ds) d = rw (targets-more ds d) (omega arith)

@@ -30,7 +30,7 @@ use Rattle.contents.specs.Iloc.{Location, iloc-form}
 use Rattle.contents.specs.Ipco.{ispe-form, bytes-form}
 use Rattle.contents.specs.Ipma.{ipma-form}
 use Rattle.contents.specs.Iprp.{IprpContent}
-use Rattle.contents.specs.Iref.{Derivation, reference-form}
+use Rattle.contents.specs.Iref.{IrefContent, noReferences, reference-form}
 use Rattle.contents.specs.Keeps.{ItemStep, Items, PropertyStep, Properties, Shows, ReferenceStep}
 use Rattle.contents.specs.BoxBreaks.{ContainBreaks, ExactlyBreaks}
 use Rattle.contents.specs.TopBreaks.{TopBreaks}
@@ -78,13 +78,13 @@ pub data IprpBreaks (ids : List ℕ) (p at : ℕ) (s : List ℕ) (n q : ℕ) : T
       WholeBreaks (ipma-form ids (length ps)) n (bodyOf b) → q ≡ at + length a → IprpBreaks ids p at s n q
 
 -- `iref`
-abbrev pub ReferenceBreaks : List ℕ → ℕ → List Derivation → List ℕ → ℕ → Type 0
-ReferenceBreaks ids bytes before b n = WholeBreaks (reference-form ids bytes (eqb (kindOf b) dimg) before) n (bodyOf b)
+abbrev pub ReferenceBreaks : List ℕ → ℕ → IrefContent → List ℕ → ℕ → Type 0
+ReferenceBreaks ids bytes before b n = WholeBreaks (reference-form ids bytes (kindOf b) before) n (bodyOf b)
 
 abbrev pub IrefBreaks : List ℕ → ℕ → ℕ → List ℕ → ℕ → ℕ → Type 0
 IrefBreaks ids p at s n q =
     LeadBreaks (full (upto 1)) (λ h a r.
-    ContainBreaks (ReferenceStep ids (idBytes (h .version))) (ReferenceBreaks ids (idBytes (h .version))) p a [] r) p at s n q
+    ContainBreaks (ReferenceStep ids (idBytes (h .version))) (ReferenceBreaks ids (idBytes (h .version))) p a noReferences r) p at s n q
 
 -- `meta`: "at most one" of each type that it names. 7: "box .. twice", at the "second box"
 pub record ChildStep (before : List (List ℕ)) (b : List ℕ) (after : List (List ℕ)) : Type 0 where

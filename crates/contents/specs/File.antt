@@ -20,7 +20,7 @@ use Rattle.contents.specs.Iinf.{Item, idsOf, items}
 use Rattle.contents.specs.Iloc.{Location, iloc-form}
 use Rattle.contents.specs.Ipma.{IpmaEntry}
 use Rattle.contents.specs.Iprp.{IprpContent, iprp-content}
-use Rattle.contents.specs.Iref.{Derivation, references}
+use Rattle.contents.specs.Iref.{Reference, IrefContent, noReferences, references}
 
 pub record File : Type 0 where
   pub primary : ℕ
@@ -28,12 +28,13 @@ pub record File : Type 0 where
   pub locations : List Location
   pub properties : List (List ℕ)
   pub associations : List IpmaEntry
-  pub derivations : List Derivation
+  pub derivations : List Reference
+  pub links : List Reference
   pub idat : List ℕ
 
 -- the references of the `iref`, if there is one
-unfoldable pub referred : List ℕ → ℕ → List (List ℕ) → Answer (List Derivation)
-referred ids p [] = ok []
+unfoldable pub referred : List ℕ → ℕ → List (List ℕ) → Answer IrefContent
+referred ids p [] = ok noReferences
 referred ids p (b ∷ bs) = references ids p (p + headOf b) (bodyOf b)
 
 -- "the content of `idat` (length 0 if absent)"
@@ -56,7 +57,7 @@ contentsOf p at s = do
   is ← items (placeOf iinf at bs) (placeOf iinf at bs + headOf i) (bodyOf i)
   ls ← whole (iloc-form (idsOf is)) (placeOf iloc at bs) (bodyOf l)
   both ← iprp-content (idsOf is) (placeOf iprp at bs) (placeOf iprp at bs + headOf r) (bodyOf r)
-  ds ← referred (idsOf is) (placeOf iref at bs) (ofKind iref bs)
+  refs ← referred (idsOf is) (placeOf iref at bs) (ofKind iref bs)
   ok (record {
     primary = primary;
     items = is;
@@ -64,7 +65,8 @@ contentsOf p at s = do
     properties = both .properties;
     associations =
         both .associations;
-    derivations = ds;
+    derivations = refs .derivations;
+    links = refs .links;
     idat = dataOf (ofKind idat bs);
   })
 

@@ -11,7 +11,7 @@ use Rattle.fields.specs.Lists.{member}
 use Rattle.forms.specs.Form.{Form, give, demand, field, many, _>>=_, _>>_}
 use Rattle.contents.specs.Full.{Full, full, upto}
 
--- the index is read from version 1 on and kept; document 01 uses it for nothing
+-- the index is read from version 1 on; only method 2 uses it
 pub record Extent : Type 0 where
   pub index : ℕ
   pub offset : ℕ
@@ -35,12 +35,16 @@ extentsIn (l ∷ ls) = length (l .extents) + extentsIn ls
 abbrev pub fieldSize : ℕ → Bool
 fieldSize n = eqb n 0 || (eqb n 4 || eqb n 8)
 
+-- Q-7: "extent index .. from 1, index 1 when the field is absent"; 0 that is written stays 0
+abbrev pub indexOf : ℕ → ℕ → ℕ
+indexOf ix i = pick (eqb ix 0) 1 i
+
 unfoldable pub extent-form : ℕ → ℕ → ℕ → List Extent → Form Extent
 extent-form ix os ls before = do
   i ← field ix
   o ← field os
   n ← field ls
-  give (record { index = i; offset = o; size = n })
+  give (record { index = indexOf ix i; offset = o; size = n })
 
 -- v the version; then the sizes of offset, length, base and index. A field of no bytes is 0: "construction method (low 4 of 16 bits) from version 1".
 -- "A repeated ID is 10"; "Every ID in `iloc` .. must be listed, else 11"; "512 extents"

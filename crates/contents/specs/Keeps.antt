@@ -28,7 +28,7 @@ use Rattle.contents.specs.Iloc.{Location, iloc-form}
 use Rattle.contents.specs.Ipco.{GoodContent}
 use Rattle.contents.specs.Ipma.{IpmaEntry, ipma-form}
 use Rattle.contents.specs.Iprp.{IprpContent}
-use Rattle.contents.specs.Iref.{Derivation, reference-form}
+use Rattle.contents.specs.Iref.{Reference, IrefContent, noReferences, reference-form, keptBy}
 use Rattle.contents.specs.File.{File, dataOf}
 
 -- `iinf`: its fields, then as many `infe` as they count, each spelling the next item
@@ -65,18 +65,18 @@ pub record Shows (ids : List ℕ) (s : List ℕ) (v : IprpContent) : Type 0 wher
   pub properties : Properties (bodyOf first) (v .properties)
   pub associations : ipma-form ids (length (v .properties)) .Spells (bodyOf second) (v .associations)
 
--- `iref`: its version and flags, then references, of which the `dimg` are kept
-pub record ReferenceStep (ids : List ℕ) (bytes : ℕ) (before : List Derivation) (b : List ℕ) (after : List Derivation) : Type 0 where
-  pub value : Derivation
-  pub spells : reference-form ids bytes (eqb (kindOf b) dimg) before .Spells (bodyOf b) value
-  pub kept : after ≡ pick (eqb (kindOf b) dimg) (before ++ (value ∷ [])) before
+-- `iref`: its version and flags, then references, of which the `dimg` and the `iloc` are kept
+pub record ReferenceStep (ids : List ℕ) (bytes : ℕ) (before : IrefContent) (b : List ℕ) (after : IrefContent) : Type 0 where
+  pub value : Reference
+  pub spells : reference-form ids bytes (kindOf b) before .Spells (bodyOf b) value
+  pub kept : after ≡ keptBy (kindOf b) before value
 
-abbrev pub References : List ℕ → List ℕ → List Derivation → Type 0
-References ids s ds = Leads (full (upto 1)) (λ h r. Contains (ReferenceStep ids (idBytes (h .version))) [] r) s ds
+abbrev pub References : List ℕ → List ℕ → IrefContent → Type 0
+References ids s c = Leads (full (upto 1)) (λ h r. Contains (ReferenceStep ids (idBytes (h .version))) noReferences r) s c
 
-abbrev pub Referred : List ℕ → List (List ℕ) → List Derivation → Type 0
-Referred ids [] ds = ds ≡ []
-Referred ids (b ∷ bs) ds = References ids (bodyOf b) ds
+abbrev pub Referred : List ℕ → List (List ℕ) → IrefContent → Type 0
+Referred ids [] c = c ≡ noReferences
+Referred ids (b ∷ bs) c = References ids (bodyOf b) c
 
 -- "`meta` version 0 has exactly one each of `hdlr`, `pitm`, `iloc`, `iinf`, `iprp`; at most one `iref`, `idat`. Others are skipped."
 pub record Spelled (bs : List (List ℕ)) (f : File) : Type 0 where
@@ -97,7 +97,7 @@ pub record Spelled (bs : List (List ℕ)) (f : File) : Type 0 where
   pub in-iinf : Items (bodyOf infos) (f .items)
   pub in-iloc : iloc-form (idsOf (f .items)) .Spells (bodyOf locations) (f .locations)
   pub in-iprp : Shows (idsOf (f .items)) (bodyOf properties) (record { properties = f .properties; associations = f .associations })
-  pub in-iref : Referred (idsOf (f .items)) (ofKind iref bs) (f .derivations)
+  pub in-iref : Referred (idsOf (f .items)) (ofKind iref bs) (record { derivations = f .derivations; links = f .links })
   pub in-idat : f .idat ≡ dataOf (ofKind idat bs)
 
 pub record ChildrenSpell (s : List ℕ) (f : File) : Type 0 where

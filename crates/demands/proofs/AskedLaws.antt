@@ -116,7 +116,7 @@ module _ (f : File) (id : ℕ) where
       by (inl x) = inl (listed-unmet n p x)
       by (inr (r, x, y)) = let z = listed-ok r x in inr (z .0, ap k (z .1) ∙ y)
 
-  pictured-or : {A : Type 0} (k : ℕ → Answer A) (n p : ℕ) → (pictured f id >>= k) ≡ refuse n p →
+  pub pictured-or : {A : Type 0} (k : ℕ → Answer A) (n p : ℕ) → (pictured f id >>= k) ≡ refuse n p →
       (SizeUnmet f id n × (p ≡ id)) ⊎ (IsPicture f id × (k (rowOf id (f .items)) ≡ refuse n p))
   unfolding pictured
   pictured-or {A} k n p e = by (listed-or _ n p (sym (bind-assoc (listed f id) _ k) ∙ e))
@@ -212,7 +212,7 @@ module _ (f : File) (id : ℕ) where
   pictured-off n (opaque q l e) = rw (q, listed-is f id l, e)
 
   -- a question of a picture
-  picture-off : {A : Type 0} (k : ℕ → Answer A) (n p : ℕ) → SizeUnmet f id n → p ≡ id → (pictured f id >>= k) ≡ refuse n p
+  pub picture-off : {A : Type 0} (k : ℕ → Answer A) (n p : ℕ) → SizeUnmet f id n → p ≡ id → (pictured f id >>= k) ≡ refuse n p
   unfolding _>>=_
   picture-off k n p u e = rw (pictured-off n u, e)
 

@@ -8,15 +8,17 @@ use lib.ListN.{length, getD, drop, replicate, length-replicate}
 use lib.Seq.{drop-at}
 use lib.Dec.{leb}
 use Rattle.fields.specs.Choice.{pick}
+use Rattle.fields.proofs.FieldLaws.{both}
 use Rattle.fields.proofs.TestLaws.{untrue}
 use Rattle.boxes.specs.Answer.{Answer, ok, refuse}
 use Rattle.contents.specs.File.{File}
-use Rattle.rules.specs.Words.{wordsOf}
+use Rattle.rules.specs.Words.{tableWords, wordsOf}
 use Rattle.rules.specs.Opening.{accepted, leftBy, afterBy, after}
 use Rattle.rules.proofs.RuleLaws.{accepted-both}
 use Rattle.questions.specs.Questions as Q
 use Rattle.records.proofs.BoundLaws.{read-bounds}
 use Rattle.views.proofs.LayoutLaws.{words-length}
+use Rattle.bodied.specs.Body.{longestBody, roomLeft}
 use Rattle.still.specs.Told.{toldFault}
 use Rattle.still.specs.Given.{PropertyGiven}
 use Rattle.faults.specs.Good.{GoodFile}
@@ -43,6 +45,18 @@ module _ (head : List ℕ) (total : ℕ) where
       by true (ok f) a l = ap (drop 11280) l ∙ drop-at (wordsOf total head f) (drop 11280 table) 11280 (accepted-long f a)
       by true (refuse n p) a l = ap (drop 11280) l ∙
           drop-at (replicate 11280 0) (drop 11280 table) 11280 (length-replicate {A = ℕ} 11280 0)
+
+  -- and by the question of a body, whose 31 sets the words before them to 0
+  pub body-behind : (table left : List ℕ) (room : ℕ) → left ≡ roomLeft after room total head table → drop 11280 left ≡ drop 11280 table
+  unfolding roomLeft
+  body-behind table left room =
+      both Kept (leb longestBody room) _ _ (λ t. words-behind table left)
+      (λ t. both Kept (leb tableWords (length table)) _ _
+      (λ t e. ap (drop 11280) e ∙ drop-at (replicate 11280 0) (drop 11280 table) 11280 (length-replicate {A = ℕ} 11280 0))
+      (λ t e. ap (drop 11280) e))
+    where
+      Kept : List ℕ → Type 0
+      Kept l = left ≡ l → drop 11280 left ≡ drop 11280 table
 
 -- no refusal of `property` can be lost: the first of the two numbers is 0 exactly where it is answered
 pub property-carried : (head : List ℕ) (total : ℕ) (table : List ℕ) (id k : ℕ) (part told left : List ℕ) →

@@ -60,6 +60,7 @@ use Rattle.still.specs.Given.{
   OrientationGiven,
   PropertyGiven,
 }
+use Rattle.faults.specs.Good.{GoodFile}
 use Rattle.faults.proofs.GoodLaws.{accepted-good, refused-first}
 use Rattle.demands.specs.Call.{SizeUnmet, TraceUnmet, PointsUnmet, SourcesUnmet, PropertyUnmet, OrientationUnmet, Call, short, bad, unmet}
 use Rattle.demands.proofs.ToldLaws.{verdict-told, size-told, trace-told, points-told, sources-told, orientation-told}
@@ -78,11 +79,11 @@ module _ (head : List ℕ) (total : ℕ) where
 
   -- a question is what reading and judging give, then what is asked of the file
   module _ (table left : List ℕ) (is : left ≡ after total head table) where
-    pub refused-call : {A : Type 0} (k : File → Answer A) (Unmet : File → ℕ → ℕ → Type 0) →
-        ((f : File) (n p : ℕ) → k f ≡ refuse n p → Unmet f n p) → (n p : ℕ) →
+    pub refused-good : {A : Type 0} (k : File → Answer A) (Unmet : File → ℕ → ℕ → Type 0) →
+        ((f : File) → GoodFile total head f → (n p : ℕ) → k f ≡ refuse n p → Unmet f n p) → (n p : ℕ) →
         (opened (length table) total head >>= k) ≡ refuse n p → Call head total table Unmet n p left
     unfolding opened afterBy leftBy check _>>=_ _>>_ pick
-    refused-call k Unmet h n p e = by (leb 11280 (length table)) refl (accepted total head) refl is e
+    refused-good k Unmet h n p e = by (leb 11280 (length table)) refl (accepted total head) refl is e
       where
         by : (t : Bool) → leb 11280 (length table) ≡ t → (m : Answer File) → accepted total head ≡ m →
             left ≡ pick t (leftBy wordsOf total head table m) table → ((check 1 0 t >> m) >>= k) ≡ refuse n p →
@@ -90,7 +91,12 @@ module _ (head : List ℕ) (total : ℕ) where
         by false q m a l e = short (leb-false _ _ q) (cc) (cc) l
         by true q (refuse i j) a l e = let x : i ≡ n = cc in let y : j ≡ p = cc in
             bad (leb-true _ _ q) (refused-first total head n p (a ∙ ap (λ (i : ℕ). refuse i j) x ∙ ap (refuse n) y)) l
-        by true q (ok f) a l e = unmet (leb-true _ _ q) f (accepted-good total head f a) (h f n p e) l
+        by true q (ok f) a l e = unmet (leb-true _ _ q) f (accepted-good total head f a) (h f (accepted-good total head f a) n p e) l
+
+    pub refused-call : {A : Type 0} (k : File → Answer A) (Unmet : File → ℕ → ℕ → Type 0) →
+        ((f : File) (n p : ℕ) → k f ≡ refuse n p → Unmet f n p) → (n p : ℕ) →
+        (opened (length table) total head >>= k) ≡ refuse n p → Call head total table Unmet n p left
+    refused-call k Unmet h = refused-good k Unmet (λ f g. h f)
 
     -- what was lent beside the table is as it was
     refused-kept : {A L : Type 0} (k : File → Answer A) (Unmet : File → ℕ → ℕ → Type 0) →

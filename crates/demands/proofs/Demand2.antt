@@ -74,7 +74,7 @@ module _ (head : List ℕ) (total : ℕ) (table : List ℕ) where
     unfolding opened
     good-opened = ok-then _ _ tt (ok-check 1 0 _ (le-leb 11280 (length table) enough)) ∙ good-accepted total head f good
 
-    good-after : after total head table ≡ wordsOf total head f ++ drop 11280 table
+    pub good-after : after total head table ≡ wordsOf total head f ++ drop 11280 table
     unfolding afterBy leftBy
     good-after = pick-yes _ _ (le-leb 11280 (length table) enough) ∙ ap (leftBy wordsOf total head table) (good-accepted total head f good)
 

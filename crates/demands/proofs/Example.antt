@@ -71,21 +71,23 @@ unfolding FieldsChoice.pick FieldsField.beAt BoxesAnswer._>>=_ BoxesAnswer._>>_ 
     ContentsIinf.items ContentsIloc.extentsIn ContentsIloc.extent-form ContentsIloc.entry-form ContentsIloc.iloc-form
     ContentsIpco.ispe-form ContentsIpco.bytes-form ContentsIpco.good-content ContentsIpco.property-step ContentsIpma.associationsIn
     ContentsIpma.association-form ContentsIpma.ipma-entry-form ContentsIpma.ipma-form ContentsIprp.pairOf ContentsIprp.iprp-content
-    ContentsIref.targetsIn ContentsIref.target-form ContentsIref.reference-form ContentsIref.reference
-    ContentsIref.references ContentsPitm.pitm-form PicturesDecode.rotation PicturesDecode.mirror PicturesDecode.turnOf
+    ContentsIref.targetsIn ContentsIref.target-form ContentsIref.referringBy ContentsIref.reference-form ContentsIref.keptBy
+    ContentsIref.reference ContentsIref.references ContentsPitm.pitm-form PicturesDecode.rotation PicturesDecode.mirror PicturesDecode.turnOf
     PicturesDecode.turnsOf PicturesDepth.reaches PicturesDepth.largest PicturesDepth.depthBy PicturesDepth.depthN
     PicturesRecipe.grid-form PicturesRecipe.offset-form PicturesRecipe.iovl-form PicturesScene.outputOf
     PicturesScene.allSize PicturesScene.madeUp PicturesScene.goodSizes PicturesSources.neededOf PicturesTrace.tileAt
     PicturesTrace.layerAt PicturesTrace.sourceBy PicturesTrace.follow PicturesTrace.traced PicturesTurn.sizeAfter
-    PicturesTurn.back PicturesTurn.sizeThrough PicturesTurn.undone RulesBytes.allExtents RulesBytes.bodyBy
+    PicturesTurn.back PicturesTurn.sizeThrough PicturesTurn.undone RulesBytes.allExtents RulesBytes.named
+    RulesBytes.chained RulesBytes.sizesOf RulesBytes.namesPast RulesBytes.known RulesBytes.byteIn RulesBytes.namedSource
+    RulesBytes.sourceOf RulesBytes.byteOf RulesBytes.bytesUpto
     RulesDerivations.allImages RulesDerivations.copyOf RulesDerivations.tilesOf RulesDerivations.layersOf
     RulesDerivations.recipeFor RulesDerivations.asRule17 RulesDerivations.recipeOr RulesDerivations.declaredIn
-    RulesDerivations.pictureOf RulesJoined.locatedAt RulesJoined.namedFor RulesJoined.derivedFrom RulesJoined.propertyAt
+    RulesDerivations.pictureOf RulesJoined.locatedAt RulesJoined.namedFor RulesJoined.referredFrom RulesJoined.propertyAt
     RulesJoined.rowOf RulesPlaces.placesAt RulesPlaces.placesBy RulesPlaces.propertyOffset RulesPlaces.fileOffset
     RulesOpening.accepted RulesOpening.opened RulesOpening.listed RulesOpening.pictured Q.verdictIn Q.sizeIn Q.foundBy
     Q.traceIn Q.sourcesIn Q.partOf Q.propertyIn Q.verdict Q.size Q.trace Q.sources Q.property Q.listAfter
     RulesOpening.leftBy RulesOpening.afterBy RulesRules.inOrder RulesRules.essentialKnown RulesRules.countOf
-    RulesRules.ispeBefore RulesRules.rule12 RulesRules.rule13-14 RulesRules.rule15-29-16 RulesRules.rule17
+    RulesRules.ispeBefore RulesRules.rule12 RulesRules.rule13-30-14 RulesRules.rule15-29-16 RulesRules.rule17
     RulesRules.rule18 RulesRules.rule19 RulesRules.rule20 RulesRules.byDepth RulesRules.judged
 own-answers = (refl, refl, refl, refl)
 

@@ -3,7 +3,7 @@
 use Prim.Native.Nat.{ℕ}
 use mathlib.Core.Path.{_≡_, sym, _∙_}
 use mathlib.Core.List.{List}
-use Rattle.still_c.specs.Given.{VerdictGiven, SizeGiven, TraceGiven, PointsGiven, SourcesGiven, PropertyGiven, OrientationGiven, TransformsGiven}
+use Rattle.still_c.specs.Given.{VerdictGiven, SizeGiven, TraceGiven, PointsGiven, SourcesGiven, BodyGiven, PropertyGiven, OrientationGiven, TransformsGiven}
 use Rattle.demands.proofs.Once.{two}
 
 -- what is given by three equations
@@ -28,6 +28,10 @@ module _ (head : List ℕ) (total : ℕ) (table : List ℕ) where
   pub sources-once : (item : ℕ) (list r s l m t u : List ℕ) → SourcesGiven head total table item list r l t →
       SourcesGiven head total table item list s m u → (r ≡ s) × ((l ≡ m) × (t ≡ u))
   sources-once item list r s l m t u = lent
+
+  pub body-once : (item : ℕ) (buffer r s l m t u : List ℕ) → BodyGiven head total table item buffer r l t →
+      BodyGiven head total table item buffer s m u → (r ≡ s) × ((l ≡ m) × (t ≡ u))
+  body-once item buffer r s l m t u = lent
 
   pub property-once : (item k : ℕ) (r s t u : List ℕ) → PropertyGiven head total table item k r t →
       PropertyGiven head total table item k s u → (r ≡ s) × (t ≡ u)

@@ -33,7 +33,7 @@ use Rattle.contents.specs.Iinf.{Item, infe-form, iinf-count}
 use Rattle.contents.specs.Iloc.{Extent, Location, extent-form, entry-form, iloc-form}
 use Rattle.contents.specs.Ipco.{ispe-form, bytes-form}
 use Rattle.contents.specs.Ipma.{Association, IpmaEntry, association-form, ipma-entry-form, ipma-form}
-use Rattle.contents.specs.Iref.{Derivation, target-form, reference-form}
+use Rattle.contents.specs.Iref.{IrefContent, target-form, reference-form}
 use Rattle.demands.specs.Numbers.{Among}
 use Rattle.demands.specs.Places.{boxPlaced, Content, BoxAt}
 use Rattle.demands.proofs.NumberLaws.{Only, only-more, only-ok, only-refuse, Placed, at-box}
@@ -260,10 +260,9 @@ target-reads ids bytes before = do
   demands 11 _ refl
   gives _
 
-pub reference-reads : (ids : List ℕ) (bytes : ℕ) (isDimg : Bool) (before : List Derivation) →
-    Reads (reference-form ids bytes isDimg before)
+pub reference-reads : (ids : List ℕ) (bytes kind : ℕ) (before : IrefContent) → Reads (reference-form ids bytes kind before)
 unfolding reference-form
-reference-reads ids bytes isDimg before = do
+reference-reads ids bytes kind before = do
   id ← fields _
   demands 11 _ refl
   demands 10 _ refl

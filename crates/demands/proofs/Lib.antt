@@ -18,6 +18,7 @@ pub mod Facing
 pub mod OutcomeLaws
 pub mod Outcomes
 pub mod FaceOutcomes
+pub mod Bodies
 pub mod FaceSame
 pub mod Behind
 pub mod Same

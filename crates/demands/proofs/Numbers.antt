@@ -6,6 +6,7 @@ use Prim.Native.Nat.{ℕ, _+_, _≤_}
 use mathlib.Core.Path.{_≡_, refl}
 use mathlib.Core.List.{List}
 use mathlib.Core.Bool.{true}
+use mathlib.Core.Logic.{inl, inr}
 use lib.ListN.{length}
 use Rattle.boxes.specs.Answer.{Answer, refuse}
 use Rattle.boxes.specs.Answer as Ans
@@ -13,12 +14,15 @@ use Rattle.contents.specs.File.{File}
 use Rattle.contents.specs.Breaks.{Broken}
 use Rattle.contents.proofs.BreakLaws.{read-broken, broken-read}
 use Rattle.pictures.specs.declared.Point.{Point}
+use Rattle.rules.specs.Bytes.{bytesUpto}
 use Rattle.rules.specs.Rules.{judged}
 use Rattle.rules.specs.Opening as Opening
+use Rattle.rules.proofs.ByteLaws.{Given, bytes-given}
 use Rattle.questions.specs.Questions as Q
-use Rattle.faults.specs.Fault.{Rule, Number, n12, n13, n14, n15, n29, n16, n17, n18, n19, n20, ruleOf}
+use Rattle.faults.specs.Fault.{Rule, Number, n12, n13, n30, n14, n15, n29, n16, n17, n18, n19, n20, ruleOf}
 use Rattle.faults.proofs.JudgedLaws.{judged-first}
 use Rattle.seam.specs.Points.{pointsIn, points}
+use Rattle.bodied.specs.Body.{bodyIn, openedFor, body}
 use Rattle.facing.specs.Orientation.{Transform, orientationIn, orientation, transformsIn}
 use Rattle.demands.specs.Numbers.{
   Among,
@@ -29,6 +33,7 @@ use Rattle.demands.specs.Numbers.{
   traceNumbers,
   pointsNumbers,
   sourcesNumbers,
+  bodyNumbers,
   propertyNumbers,
   orientationNumbers,
   transformsNumbers,
@@ -38,7 +43,9 @@ use Rattle.demands.proofs.PlaceLaws.{box-room}
 use Rattle.demands.proofs.NumberLaws.{
   Only,
   only-ok,
+  only-refuse,
   only-check,
+  only-pick,
   only-more,
   within,
   among-more,
@@ -87,6 +94,7 @@ module _ (total : ℕ) (head : List ℕ) where
   fault-number : (f : File) (k : Number) → Among judgingNumbers (ruleOf total head f k .number)
   fault-number f n12 = refl
   fault-number f n13 = refl
+  fault-number f n30 = refl
   fault-number f n14 = refl
   fault-number f n15 = refl
   fault-number f n29 = refl
@@ -99,13 +107,24 @@ module _ (total : ℕ) (head : List ℕ) where
   pub judging-number : (f : File) (n p : ℕ) → judged total head f ≡ refuse n p → Among judgingNumbers n
   judging-number f n p e = let x = judged-first total head f n p e in rw (x .3) (fault-number f (x .0))
 
-  opened-only : (words : ℕ) → Only (λ n p. Among fileNumbers n) (Opening.opened words total head)
-  unfolding Opening.opened Opening.accepted
-  opened-only words = do
-    only-check 1 0 _ refl
+  accepted-only : Only (λ n p. Among fileNumbers n) (Opening.accepted total head)
+  unfolding Opening.accepted
+  accepted-only = do
     f ← record { by = λ n p e. among-more readingNumbers fileNumbers refl n (reading-number n p (read-broken total head n p e)) }
     record { by = λ n p e. among-more judgingNumbers fileNumbers refl n (judging-number f n p e) }
     only-ok
+
+  opened-only : (words : ℕ) → Only (λ n p. Among fileNumbers n) (Opening.opened words total head)
+  unfolding Opening.opened
+  opened-only words = only-check 1 0 _ refl >> accepted-only
+
+  -- the bytes of an item are refused by 17 alone
+  bytes-only : (list : List ℕ) → Among list 17 → (f : File) (id n : ℕ) → Only (λ n p. Among list n) (bytesUpto total head f id n)
+  bytes-only list h f id n = by (bytesUpto total head f id n) (bytes-given total head f id n)
+    where
+      by : (m : Answer (List ℕ)) → Given m → Only (λ n p. Among list n) m
+      by m (inl x) = rw (x .1) only-ok
+      by m (inr x) = rw x (only-refuse h)
 
   module _ (words n p : ℕ) where
     -- a question is what reading and judging give, then what is asked of the file
@@ -142,6 +161,14 @@ module _ (total : ℕ) (head : List ℕ) where
       r ← pictured-only sourcesNumbers f id refl refl
       only-check 24 id _ refl
       only-ok)
+
+    -- 17 is among them anyway; no body of an accepted file has it (`body-unmet`, Bodies.antt)
+    pub body-number : (room id : ℕ) → body words room total head id ≡ refuse n p → Among bodyNumbers n
+    unfolding body openedFor bodyIn
+    body-number room id = (((only-check 1 0 _ refl >> only-check 31 id _ refl) >>
+        only-more (λ n p. among-more fileNumbers bodyNumbers refl n) accepted-only) >>= (λ f. do
+          r ← pictured-only bodyNumbers f id refl refl
+          only-pick _ (only-check 17 _ _ refl >> bytes-only bodyNumbers refl f _ _) only-ok)) .by n p
 
     pub property-number : (id k : ℕ) → Q.property words total head id k ≡ refuse n p → Among propertyNumbers n
     unfolding Q.property Q.propertyIn

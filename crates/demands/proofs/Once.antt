@@ -11,6 +11,7 @@ use Rattle.traced.specs.declared.Traced.{Traced}
 use Rattle.seam.specs.declared.PointRecord.{PointRecord}
 use Rattle.seam.specs.declared.PointsFilled.{PointsFilled}
 use Rattle.sourced.specs.declared.Listed.{Listed}
+use Rattle.bodied.specs.declared.Bodied.{Bodied}
 use Rattle.facing.specs.declared.Oriented.{Oriented}
 use Rattle.asked.specs.declared.PropertyAsked.{PropertyAsked}
 use Rattle.facing.specs.declared.TransformList.{TransformList}
@@ -22,6 +23,7 @@ use Rattle.still.specs.Given.{
   PointsGiven,
   PointNumbersGiven,
   SourcesGiven,
+  BodyGiven,
   OrientationGiven,
   TransformsGiven,
   AskedGiven,
@@ -63,6 +65,10 @@ module _ (head : List ℕ) (total : ℕ) (table : List ℕ) where
       SourcesGiven head total table id list r l t → SourcesGiven head total table id list s m u → (r ≡ s) ×
       ((l ≡ m) × (t ≡ u))
   sources-once id list r s l m t u = three
+
+  pub body-once : (id : ℕ) (buffer : List ℕ) (r s : Bodied) (l m t u : List ℕ) →
+      BodyGiven head total table id buffer r l t → BodyGiven head total table id buffer s m u → (r ≡ s) × ((l ≡ m) × (t ≡ u))
+  body-once id buffer r s l m t u = three
 
   pub asked-once : (id k : ℕ) (r s : PropertyAsked) (t u : List ℕ) → AskedGiven head total table id k r t →
       AskedGiven head total table id k s u → (r ≡ s) × (t ≡ u)

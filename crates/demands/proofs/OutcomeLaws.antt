@@ -49,13 +49,13 @@ use Rattle.demands.proofs.AskedLaws.{
   property-off,
   orientation-off,
 }
-use Rattle.demands.proofs.Demand1.{refused-call}
+use Rattle.demands.proofs.Demand1.{refused-good}
 
 module _ (head : List ℕ) (total : ℕ) (table left : List ℕ) (is : left ≡ after total head table) {A B : Type 0}
     (asked : File → Answer A) (told : Answer A → B) (Unmet : File → ℕ → ℕ → Type 0) (r : B)
     (given : r ≡ told (opened (length table) total head >>= asked)) where
   -- a call is answered or refused
-  pub outcome : ((f : File) (n p : ℕ) → asked f ≡ refuse n p → Unmet f n p) →
+  pub outcome : ((f : File) → GoodFile total head f → (n p : ℕ) → asked f ≡ refuse n p → Unmet f n p) →
       Outcome head total table asked told Unmet r left
   unfolding opened afterBy leftBy
   outcome h = by (opened (length table) total head >>= asked) refl
@@ -67,7 +67,7 @@ module _ (head : List ℕ) (total : ℕ) (table left : List ℕ) (is : left ≡ 
           let enough = leb-true tableWords (length table) (check-ok 1 0 _ (y .0) (y .1)) in
           answered enough (x .0) (accepted-good total head (x .0) (y .2)) a (x .2) (given ∙ ap told e)
           (is ∙ pick-yes _ _ (le-leb tableWords (length table) enough) ∙ ap (leftBy wordsOf total head table) (y .2))
-      by (refuse n p) e = refused n p (given ∙ ap told e) (refused-call head total table left is asked Unmet h n p e)
+      by (refuse n p) e = refused n p (given ∙ ap told e) (refused-good head total table left is asked Unmet h n p e)
 
   -- and each reason for a refusal refuses it
   pub refuses : ((f : File) (n p : ℕ) → Unmet f n p → asked f ≡ refuse n p) →
@@ -87,7 +87,7 @@ module _ (head : List ℕ) (total : ℕ) (table left : List ℕ) (is : left ≡ 
 
   decided : ((f : File) (n p : ℕ) → asked f ≡ refuse n p → Unmet f n p) →
       ((f : File) (n p : ℕ) → Unmet f n p → asked f ≡ refuse n p) → Decided head total table asked told Unmet r left
-  decided h k = (outcome h, refuses k)
+  decided h k = (outcome (λ f g. h f), refuses k)
 
 never : {A B : Type 0} (x : A) (n p : ℕ) → ok x ≡ refuse n p → B
 never x n p e = let z : _≡_ {A = ℕ} 0 1 = cc in absurd (omega arith)

@@ -21,7 +21,7 @@ use Rattle.boxes.proofs.TopLaws.{Seen, closed, open-end, look-seen, meta-sound}
 use Rattle.contents.specs.Iinf.{Item, infe-step, items}
 use Rattle.contents.specs.Ipco.{good-content, property-step}
 use Rattle.contents.specs.Iprp.{pairOf, iprp-content}
-use Rattle.contents.specs.Iref.{Derivation, reference, references}
+use Rattle.contents.specs.Iref.{IrefContent, noReferences, reference, references}
 use Rattle.contents.specs.File.{referred, contentsOf, fileOf, readFile}
 use Rattle.contents.proofs.PropertyLaws.{any-sound}
 use Rattle.demands.specs.Places.{Passed, Opens, of-iprp, of-ipco, of-iref, Content, of-meta, BoxAt, at-top}
@@ -181,7 +181,7 @@ module _ {total : ℕ} {head : List ℕ} where
         ns ← whole-only (ipma-reads ids (length ps)) _ _ (found-box c (w .1))
         only-ok))
 
-  reference-only : (ids : List ℕ) (bytes at : ℕ) (before : List Derivation) (b : List ℕ) → BoxAt total head at →
+  reference-only : (ids : List ℕ) (bytes at : ℕ) (before : IrefContent) (b : List ℕ) → BoxAt total head at →
       Only (Placed total head) (reference ids bytes at before b)
   unfolding reference
   reference-only ids bytes at before b i = whole-only (reference-reads ids bytes _ before) at _ i >>= (λ d. only-ok)
@@ -192,7 +192,7 @@ module _ {total : ℕ} {head : List ℕ} where
   unfolding references
   references-only ids p at s i c = lead-only (full-reads _) p s i at (λ u r v j x.
       let w = full-opens 1 u v x in c u r j (of-iref (w .0) (w .1)))
-      (λ h a r l. contain-only (reference-only ids _) p a [] r i (content-each l))
+      (λ h a r l. contain-only (reference-only ids _) p a noReferences r i (content-each l))
 
   module _ {at : ℕ} {s : List ℕ} (c : Content total head meta at s) where
     referred-only : (ids : List ℕ) (p : ℕ) (bs : List (List ℕ)) →
@@ -221,7 +221,7 @@ module _ {total : ℕ} {head : List ℕ} where
           is ← items-only _ _ _ (found-box c (its iinf b eb)) (found-content c (its iinf b eb))
           ls ← whole-only (iloc-reads _) _ _ (found-box c (its iloc l el))
           both ← shown-only _ _ _ _ (found-box c (its iprp r er)) (found-plain c (its iprp r er) of-iprp)
-          ds ← referred-only _ _ (ofKind iref bs) (λ b cs q. found-of iref at bs s b cs (k .all) (k .joined) q)
+          refs ← referred-only _ _ (ofKind iref bs) (λ b cs q. found-of iref at bs s b cs (k .all) (k .joined) q)
           only-ok))))))
 
   file-only : (p at : ℕ) (s : List ℕ) → BoxAt total head p →

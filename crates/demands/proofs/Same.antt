@@ -11,9 +11,11 @@ use borrow.Author.Tests.{leb-true, leb-false}
 use Rattle.boxes.specs.Answer.{refuse, check, _>>_}
 use Rattle.boxes.proofs.AnswerLaws.{then-ok, check-ok}
 use Rattle.rules.specs.Opening.{accepted, opened, after, fileAfter}
+use Rattle.bodied.specs.Body.{roomLeft}
 use Rattle.arranged.specs.Rearranged.{Rearranged}
 use Rattle.arranged.proofs.Rearranged.{rearranged-after}
-use Rattle.demands.specs.Same.{recordWord, Found, Moved, Same, AllSame, AllSameInC}
+use Rattle.demands.specs.Same.{recordWord, Found, Moved, Same, Unmoved, AllSame, AllSameInC}
+use Rattle.bodied.proofs.RoomLaws.{room-left, short-left}
 
 -- an item is found under its ID in a table that was rearranged
 module _ (n : ℕ) (old new : List ℕ) (r : Rearranged n old new) where
@@ -43,7 +45,7 @@ module _ (n : ℕ) (old new : List ℕ) (r : Rearranged n old new) where
       }
 
 module _ (head : List ℕ) (total : ℕ) (table : List ℕ) where
-  -- 1 to 20 or 29: there is nothing to rearrange
+  -- 1 to 20, 29 or 30: there is nothing to rearrange
   left-same : (n p : ℕ) → opened (length table) total head ≡ refuse n p → after total head table ≡ fileAfter total head table
   unfolding opened check _>>_
   left-same n p e = by (leb 11280 (length table)) refl e
@@ -84,18 +86,39 @@ module _ (head : List ℕ) (total : ℕ) (table : List ℕ) where
   pair-is : {A B : Type 0} (a : A × B) (answer : A) (beside : B) → a .0 ≡ answer → a .1 ≡ beside → a ≡ (answer, beside)
   pair-is a answer beside e h = ap (λ z. (z, a .1)) e ∙ ap (λ z. (answer, z)) h
 
+  -- left-of: the table that a call leaves, which is what every other leaves
+  module _ {A B : Type 0} (answer : A) (beside : B) (left-of : (ℕ → List ℕ → List ℕ → List ℕ) → List ℕ) where
+    lent-by : ((by : ℕ → List ℕ → List ℕ → List ℕ) → left-of by ≡ by total head table) →
+        Same head total table (λ by (a : A × B) left. (a .0 ≡ answer) × ((a .1 ≡ beside) × (left ≡ left-of by)))
+    lent-by k =
+        same-by (answer, beside) _ (λ by a left g. (pair-is a answer beside (g .0) (g .1 .0), g .1 .1 ∙ k by))
+        (λ by a left e h. (ap (λ (z : _ × _). z .0) e, (ap (λ (z : _ × _). z .1) e, h ∙ sym (k by))))
+
+    lent-by-in-c : ((by : ℕ → List ℕ → List ℕ → List ℕ) → left-of by ≡ by total head table) →
+        Same head total table (λ by (a : A × B) left. (a .0 ≡ answer) × (a .1 ≡ beside) × (left ≡ left-of by))
+    lent-by-in-c k =
+        same-by (answer, beside) _ (λ by a left g. (pair-is a answer beside (g .0) (g .1), g .2 ∙ k by))
+        (λ by a left e h. (ap (λ (z : _ × _). z .0) e, ap (λ (z : _ × _). z .1) e, h ∙ sym (k by)))
+
+    -- or the same, however a file's words are laid out
+    unmoved : left-of after ≡ left-of fileAfter →
+        Unmoved head total table (λ by (a : A × B) left. (a .0 ≡ answer) × ((a .1 ≡ beside) × (left ≡ left-of by)))
+    unmoved k a b old new g h =
+        (pair-is a answer beside (g .0) (g .1 .0) ∙ sym (pair-is b answer beside (h .0) (h .1 .0)), h .1 .1 ∙ k ∙ sym (g .1 .1))
+
+    unmoved-in-c : left-of after ≡ left-of fileAfter →
+        Unmoved head total table (λ by (a : A × B) left. (a .0 ≡ answer) × (a .1 ≡ beside) × (left ≡ left-of by))
+    unmoved-in-c k a b old new g h =
+        (pair-is a answer beside (g .0) (g .1) ∙ sym (pair-is b answer beside (h .0) (h .1)), h .2 ∙ k ∙ sym (g .2))
+
   lent : {A B : Type 0} (answer : A) (beside : B) →
       Same head total table (λ by (a : A × B) left. (a .0 ≡ answer) × ((a .1 ≡ beside) × (left ≡ by total head table)))
-  lent answer beside =
-      same-by (answer, beside) _ (λ by a left g. (pair-is a answer beside (g .0) (g .1 .0), g .1 .1))
-      (λ by a left e h. (ap (λ (z : _ × _). z .0) e, (ap (λ (z : _ × _). z .1) e, h)))
+  lent answer beside = lent-by answer beside (λ by. by total head table) (λ by. refl)
 
   -- the same, as C's promises are put together
   lent-in-c : {A B : Type 0} (answer : A) (beside : B) →
       Same head total table (λ by (a : A × B) left. (a .0 ≡ answer) × (a .1 ≡ beside) × (left ≡ by total head table))
-  lent-in-c answer beside =
-      same-by (answer, beside) _ (λ by a left g. (pair-is a answer beside (g .0) (g .1), g .2))
-      (λ by a left e h. (ap (λ (z : _ × _). z .0) e, ap (λ (z : _ × _). z .1) e, h))
+  lent-in-c answer beside = lent-by-in-c answer beside (λ by. by total head table) (λ by. refl)
 
   pub all-same : AllSame head total table
   all-same =
@@ -106,6 +129,9 @@ module _ (head : List ℕ) (total : ℕ) (table : List ℕ) where
         points = λ id records. lent _ _;
         point-numbers = λ id records. lent _ _;
         sources = λ id list. lent _ _;
+        body = λ id buffer h. lent-by _ _ (λ by. roomLeft by (length buffer) total head table) (λ by. room-left head total table _ id by h);
+        short-body = λ id buffer h.
+            unmoved _ _ (λ by. roomLeft by (length buffer) total head table) (short-left head total table _ id after fileAfter h);
         asked = λ id k. alone _;
         property = λ id k. lent _ _;
         orientation = λ id. alone _;
@@ -119,6 +145,9 @@ module _ (head : List ℕ) (total : ℕ) (table : List ℕ) where
         trace = λ id x y. alone _;
         points = λ id records. lent-in-c _ _;
         sources = λ id list. lent-in-c _ _;
+        body = λ id buffer h. lent-by-in-c _ _ (λ by. roomLeft by (length buffer) total head table) (λ by. room-left head total table _ id by h);
+        short-body = λ id buffer h.
+            unmoved-in-c _ _ (λ by. roomLeft by (length buffer) total head table) (short-left head total table _ id after fileAfter h);
         property = λ id k. alone _;
         orientation = λ id. alone _;
       }

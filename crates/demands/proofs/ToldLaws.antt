@@ -20,6 +20,8 @@ use Rattle.asked.specs.Told.{toldVerdict, toldSized}
 use Rattle.traced.specs.Told.{toldFound, toldTraced}
 use Rattle.seam.specs.Points.{toldPointsFilled}
 use Rattle.sourced.specs.Told.{toldListed}
+use Rattle.bodied.specs.declared.Bodied.the-variants as bodied
+use Rattle.bodied.specs.Told.{toldBodied}
 use Rattle.facing.specs.Told.{toldOriented}
 
 -- what an answer of any kind is, told by a function that tells refusals by `off` and nothing else by it
@@ -60,6 +62,10 @@ points-all (refuse k p) n e = let z : _≡_ {A = ℕ} 0 1 = cc in absurd (omega 
 pub sources-told : (m : Answer (List ℕ)) (y : Refusal) → toldListed m ≡ listed.Refused y → m ≡ refuse (y .number) (y .place)
 unfolding toldListed
 sources-told = told-refused toldListed listed.Refused (λ x y e. let z : _≡_ {A = ℕ} 0 1 = cc in omega arith) (λ n p y e. ((cc), (cc)))
+
+pub body-told : (m : Answer (List ℕ)) (y : Refusal) → toldBodied m ≡ bodied.Refused y → m ≡ refuse (y .number) (y .place)
+unfolding toldBodied
+body-told = told-refused toldBodied bodied.Refused (λ x y e. let z : _≡_ {A = ℕ} 0 1 = cc in omega arith) (λ n p y e. ((cc), (cc)))
 
 pub orientation-told : (m : Answer ℕ) (y : Refusal) → toldOriented m ≡ oriented.Refused y → m ≡ refuse (y .number) (y .place)
 unfolding toldOriented

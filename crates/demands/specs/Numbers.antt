@@ -18,9 +18,9 @@ readingNumbers = 2 ∷ 3 ∷ 4 ∷ 5 ∷ 6 ∷ 7 ∷ 8 ∷ 9 ∷ 10 ∷ 11 ∷ [
 
 -- "Then 12. Then for each item in table order 13 before 14; then for each image item 15 before 16; then 17 for each
 -- item; 18 and then 19, first such item in table order; then 20, by rising depth and table order within a depth."
--- Document 02: "29, checked for each image item between 15 and 16"
+-- Document 02: "29, checked for each image item between 15 and 16"; "30, .. between 13 and 14 for the item"
 abbrev pub judgingNumbers : List ℕ
-judgingNumbers = 12 ∷ 13 ∷ 14 ∷ 15 ∷ 29 ∷ 16 ∷ 17 ∷ 18 ∷ 19 ∷ 20 ∷ []
+judgingNumbers = 12 ∷ 13 ∷ 30 ∷ 14 ∷ 15 ∷ 29 ∷ 16 ∷ 17 ∷ 18 ∷ 19 ∷ 20 ∷ []
 
 -- 1: "table under 11,280 words"; then reading, then judging
 abbrev pub fileNumbers : List ℕ
@@ -49,6 +49,10 @@ propertyNumbers = fileNumbers ++ (21 ∷ 25 ∷ [])
 -- document 02: "26, the item has a `clap`, after 22"
 abbrev pub orientationNumbers : List ℕ
 orientationNumbers = fileNumbers ++ (21 ∷ 22 ∷ 26 ∷ [])
+
+-- document 02: "31, body buffer under 16,402 bytes, in that question only, between 1 and 2"; "22 in the new question for opaque items"
+abbrev pub bodyNumbers : List ℕ
+bodyNumbers = 1 ∷ 31 ∷ ((readingNumbers ++ judgingNumbers) ++ (21 ∷ 22 ∷ []))
 
 -- document 02: "27, orientation not 1 to 8, the only check in that call"
 abbrev pub transformsNumbers : List ℕ

@@ -1,30 +1,36 @@
--- The body of an item at its one extent. Assumes nothing.
+-- The body of an item: at its one extent, or joined. Assumes nothing.
+--   ReadAs m b    b is read in place of the body m, and says the same of a derivation: it is m, or there is none and b is no body either
 use Prim.Native.Nat.{ℕ, zero, suc, _+_, _<_, _≤_}
 use native.Mathlib.Decide.{decLt}
 use native.Mathlib.Omega.{arith}
-use mathlib.Core.Path.{_≡_, refl, sym, ap, _∙_}
+use mathlib.Core.Path.{_≡_, refl, sym, ap, subst, _∙_}
 use mathlib.Core.List.{List, [], _∷_}
-use mathlib.Core.Bool.{Bool, true, false}
-use lib.ListN.{length, getD, take, drop}
-use lib.Seq.{take-take, drop-drop}
+use mathlib.Core.Bool.{Bool, true, false, _&&_, not}
+use mathlib.Core.Logic.{_⊎_, inl, inr}
+use lib.ListN.{length, getD, take, drop, length-drop}
+use lib.Seq.{take-take, drop-drop, length-take-le}
 use lib.Dec.{eqb, leb}
-use borrow.Author.Tests.{leb-true, leb-false, le-leb, lt-leb, not-true, eqb-false}
+use borrow.Author.Tests.{leb-true, leb-false, le-leb, lt-leb, not-true, eqb-true, eqb-false, eq-eqb, ne-eqb}
 use Rattle.fields.specs.Choice.{pick}
 use Rattle.fields.proofs.FieldLaws.{both, pick-yes, pick-no}
-use Rattle.fields.proofs.TestLaws.{and-both}
+use Rattle.fields.proofs.TestLaws.{untrue}
 use Rattle.boxes.specs.Answer.{Answer, ok, refuse}
-use Rattle.boxes.proofs.AnswerLaws.{then-ok, check-ok}
+use Rattle.boxes.proofs.AnswerLaws.{ok-then, ok-check}
 use Rattle.contents.specs.Iloc.{Extent, Location}
 use Rattle.contents.specs.File.{File}
-use Rattle.rules.specs.Bytes.{Store, storeOf, goodMethod, goodLengths, within, bodyBy, bodyIn}
-use Rattle.rules.specs.Joined.{locationOf, itemAt}
+use Rattle.rules.specs.inner.Direct.{Store, storeOf, bodyBy, bodyIn}
+use Rattle.rules.specs.Bytes.{sizesOf, lengthOf, bytesUpto, bodyOf}
+use Rattle.rules.specs.Joined.{noExtent, locationOf, itemAt}
 use Rattle.rules.specs.Places.{Places, fileOffset}
-use Rattle.rules.specs.Rules.{rule13-14, hasBytes}
+use Rattle.rules.specs.Rules.{rule13-30-14}
+use Rattle.rules.proofs.ByteLaws.{one-body, within-other}
+use Rattle.rules.proofs.PlacedLaws.{extents-each, placed-of}
 use Rattle.records.specs.inner.Raw.{capped}
-use Rattle.views.specs.inner.View.{TableOf, recordWord, idOf, noExtent}
+use Rattle.joining.proofs.FileLaws.{body-too-long}
+use Rattle.views.specs.inner.View.{TableOf, recordWord, idOf}
 use Rattle.views.proofs.TableLaws.{row-small}
-use Rattle.views.proofs.ViewLaws.{extents-each, capped-same}
-use Rattle.derived.specs.inner.Told.{bodyOr}
+use Rattle.views.proofs.ViewLaws.{capped-same}
+use Rattle.derived.specs.inner.Told.{isJoined, bodyOr}
 
 -- a part of a front
 take-front : (n k m : ℕ) (s : List ℕ) → k + n ≤ m → take n (drop k (take m s)) ≡ take n (drop k s)
@@ -38,12 +44,6 @@ capped-large : (x : ℕ) → 18446744073709551616 ≤ x → capped x ≡ 1844674
 capped-large x h = pick-no x 18446744073709551615 (lt-leb x 18446744073709551615 (omega arith))
 
 -- bodyBy
-body-unless-one : (st : Store) (base : ℕ) (es : List Extent) → (length es ≡ 1 → ⊥) → [] ≡ bodyOr (bodyBy st base es)
-unfolding bodyBy bodyOr
-body-unless-one st base [] n = refl
-body-unless-one st base (e ∷ []) n = absurd (n refl)
-body-unless-one st base (e ∷ x ∷ xs) n = refl
-
 abbrev bodyFrom : Store → ℕ → Extent → List ℕ
 bodyFrom st base e = bodyOr (pick (leb (base + e .offset + e .size) (length (st .known)))
     (ok (take (e .size) (drop (base + e .offset) (st .known)))) (refuse 17 0))
@@ -111,43 +111,116 @@ pub extents-counted : {t head : List ℕ} {pl : Places} {f : File} → TableOf t
     r < length (f .items) → (n : ℕ) → (r < 256 → n ≡ recordWord t r 8) → n ≡ length (locationOf f (idOf f r) .extents)
 extents-counted v r h n e = e (row-small v r h) ∙ v .extent-count r h
 
--- bodyIn, for an item that 13 and 14 pass
+-- isJoined
+pub joined-many : (l : Location) (n : ℕ) → n ≡ length (l .extents) → (n ≡ 1 → ⊥) → true ≡ isJoined l
+joined-many l n e o = rw (ne-eqb (length (l .extents)) 1 (λ q. o (e ∙ q))) refl
+
+pub joined-made : (l : Location) (n : ℕ) → n ≡ length (l .extents) → n ≡ 1 → (m : ℕ) → m ≡ l .method → eqb m 2 ≡ isJoined l
+joined-made l n e o m q = rw (eq-eqb (length (l .extents)) 1 (sym e ∙ o), q) (by (eqb (l .method) 2))
+  where
+    by : (b : Bool) → b ≡ not (true && not b)
+    by true = refl
+    by false = refl
+
+pub direct-one : (l : Location) → isJoined l ≡ false → (length (l .extents) ≡ 1) × (eqb (l .method) 2 ≡ false)
+direct-one l e = by (eqb (length (l .extents)) 1) refl (eqb (l .method) 2) refl e
+  where
+    by : (a : Bool) → eqb (length (l .extents)) 1 ≡ a → (b : Bool) → eqb (l .method) 2 ≡ b → not (a && not b) ≡ false →
+        (length (l .extents) ≡ 1) × (eqb (l .method) 2 ≡ false)
+    by true x true y z = untrue (sym z)
+    by true x false y z = (eqb-true _ 1 x, y)
+    by false x b y z = untrue (sym z)
+
+one-extent-of : (es : List Extent) → length es ≡ 1 → es ≡ getD es 0 noExtent ∷ []
+one-extent-of [] e = absurd (omega arith)
+one-extent-of (x ∷ []) e = refl
+one-extent-of (x ∷ y ∷ ys) e = absurd (omega arith)
+
+one-size : (es : List Extent) (e : Extent) → es ≡ e ∷ [] → sizesOf es ≡ e .size
+unfolding sizesOf
+one-size es e z = rw z (omega arith)
+
+none-size : (es : List Extent) → length es ≡ 0 → sizesOf es ≡ 0
+unfolding sizesOf
+none-size [] e = refl
+none-size (x ∷ xs) e = absurd (omega arith)
+
+-- bodyOf: no extents, no bytes
+pub body-none : (total : ℕ) (head : List ℕ) (f : File) (id : ℕ) → length (locationOf f id .extents) ≡ 0 → bodyOf total head f id ≡ ok []
+unfolding bytesUpto
+body-none total head f id z =
+    let n = none-size (locationOf f id .extents) z in
+    ok-then _ _ tt (ok-check 17 id _ (le-leb (lengthOf f id) 16402 (omega arith))) ∙ ap (bytesUpto total head f id) n
+
+-- ReadAs
+abbrev pub ReadAs : Answer (List ℕ) → List ℕ → Type 0
+ReadAs (ok x) b = b ≡ x
+ReadAs (refuse n p) b = (b ≡ []) ⊎ (16402 < length b)
+
+read-or : (m : Answer (List ℕ)) → ReadAs m (bodyOr m)
+unfolding bodyOr
+read-or (ok x) = refl
+read-or (refuse n p) = inl refl
+
+-- a part that is too long is no body, held in the head or not
+read-long : (s : List ℕ) (at n id : ℕ) → 16402 < n →
+    ReadAs (refuse 17 id) (bodyOr (pick (leb (at + n) (length s)) (ok (take n (drop at s))) (refuse 17 0)))
+unfolding bodyOr
+read-long s at n id h =
+    both (λ (m : Answer (List ℕ)). ReadAs (refuse 17 id) (bodyOr m)) (leb (at + n) (length s)) _ _
+    (λ q. let l = leb-true (at + n) (length s) q in
+    let z = length-take-le n (drop at s) (rw length-drop (omega arith)) in inr (omega arith))
+    (λ q. inl refl)
+
+-- bodyIn, for an item of one extent that 13, 30 and 14 pass
 module _ {t head : List ℕ} {pl : Places} {f : File} (v : TableOf t head pl f) (total r : ℕ) (h : r < length (f .items))
-    (placed : rule13-14 total head f (itemAt f r) ≡ ok tt) where
+    (placed : rule13-30-14 total head f (itemAt f r) ≡ ok tt) (direct : isJoined (locationOf f (idOf f r)) ≡ false) where
   abbrev place : Location
   place = locationOf f (idOf f r)
 
   abbrev store : Store
   store = storeOf total head f (place .method)
 
-  each-some : (j : ℕ) → j < length (place .extents) → getD (place .extents) j noExtent .size ≡ 0 → ⊥
-  unfolding rule13-14
-  each-some j l =
-      let x = then-ok _ _ tt placed in
-      let g = and-both (goodMethod place) (goodLengths place) (check-ok 13 _ _ _ (x .1)) .1 in
-      eqb-false _ 0 (not-true _ (extents-each _ noExtent (place .extents) g j l))
+  abbrev its : Extent
+  its = getD (place .extents) 0 noExtent
 
-  each-within : (j : ℕ) → j < length (place .extents) →
-      place .base + getD (place .extents) j noExtent .offset + getD (place .extents) j noExtent .size ≤ store .size
-  unfolding rule13-14
-  each-within j l =
-      let x = then-ok _ _ tt placed in
-      let g = and-both (within store place) (hasBytes f (itemAt f r)) (check-ok 14 _ _ tt (x .2)) .0 in
-      leb-true _ _ (extents-each _ noExtent (place .extents) g j l)
+  its-one : length (place .extents) ≡ 1
+  its-one = direct-one place direct .0
 
-  pub body-gone : (n : ℕ) → (r < 256 → n ≡ recordWord t r 8) → (n ≡ 1 → ⊥) → [] ≡ bodyOr (bodyIn store place)
-  body-gone n e o = body-unless-one store (place .base) (place .extents) (λ q. o (extents-counted v r h n e ∙ q))
+  its-some : its .size ≡ 0 → ⊥
+  its-some = eqb-false _ 0 (not-true _ (extents-each _ (place .extents) (placed-of total head f (itemAt f r) placed .lengths) 0 (omega (arith, its-one))))
 
-  pub body-here : length head < 18446744073709551616 → (n : ℕ) → (r < 256 → n ≡ recordWord t r 8) → n ≡ 1 → (size offset : ℕ)
-      → (0 < length (place .extents) → (size ≡ getD (place .extents) 0 noExtent .size) ×
-      (offset ≡ capped (fileOffset pl place (getD (place .extents) 0 noExtent))))
+  its-within : place .base + its .offset + its .size ≤ store .size
+  its-within =
+      let g = sym (within-other total head f (idOf f r) (direct-one place direct .1)) ∙ placed-of total head f (itemAt f r) placed .inside in
+      leb-true _ _ (extents-each (λ (e : Extent). leb (place .base + e .offset + e .size) (store .size)) (place .extents) g 0 (omega (arith, its-one)))
+
+  pub body-here : length head < 18446744073709551616 → (size offset : ℕ)
+      → (0 < length (place .extents) → (size ≡ its .size) × (offset ≡ capped (fileOffset pl place its)))
       → (b : List ℕ) → (offset + size ≤ length head → b ≡ take size (drop offset head)) →
       (length head < offset + size → b ≡ []) → b ≡ bodyOr (bodyIn store place)
-  body-here small n e o size offset told b inside outside =
-      let k : length (place .extents) ≡ 1 = sym (extents-counted v r h n e) ∙ o in
-      let some : 0 < length (place .extents) = omega arith in
-      let q = told some in
-      extent-body total head f pl (v .sound .idat-room) (v .sound .idat-part) small place
-      (getD (place .extents) 0 noExtent) b (each-some 0 some) (each-within 0 some)
+  body-here small size offset told b inside outside =
+      let q = told (omega (arith, its-one)) in
+      extent-body total head f pl (v .sound .idat-room) (v .sound .idat-part) small place its b its-some its-within
       (rw (← q .0, ← q .1) (record { inside = inside; outside = outside }))
-      ∙ sym (body-one store (place .base) (place .extents) k)
+      ∙ sym (body-one store (place .base) (place .extents) its-one)
+
+  -- it is the body as document 02 has it, as far as there is one
+  pub direct-body : ReadAs (bodyOf total head f (idOf f r)) (bodyOr (bodyIn store place))
+  direct-body =
+      let z = one-extent-of (place .extents) its-one in
+      let o = direct-one place direct .1 in
+      elim (decLt 16402 (its .size)) [
+        | yes l ↦ subst (λ (m : Answer (List ℕ)). ReadAs m (bodyOr (bodyIn store place)))
+            (sym (body-too-long total head f (idOf f r) (let w = one-size (place .extents) its z in omega arith)))
+            (rw (body-one store (place .base) (place .extents) its-one) (read-long (store .known) (place .base + its .offset) (its .size) (idOf f r) l))
+        | no l ↦ subst (λ (m : Answer (List ℕ)). ReadAs m (bodyOr (bodyIn store place)))
+            (sym (one-body total head f (idOf f r) its o z (omega (arith, its-some)) (omega (arith, l)))) (read-or (bodyIn store place))
+      ]
+
+  -- so that a body that there is, is the one that is read
+  pub direct-read : (b : List ℕ) → bodyOf total head f (idOf f r) ≡ ok b → bodyOr (bodyIn store place) ≡ b
+  direct-read b e = subst (λ (m : Answer (List ℕ)). ReadAs m (bodyOr (bodyIn store place))) e direct-body
+
+  pub direct-as : (b : List ℕ) → b ≡ bodyOr (bodyIn store place) → ReadAs (bodyOf total head f (idOf f r)) b
+  direct-as b e = subst (ReadAs (bodyOf total head f (idOf f r))) (sym e) direct-body

@@ -1,15 +1,12 @@
--- The rows that targets name, and the inputs of an item. Assumes nothing.
---   ResolvedTo t rows f k    the rows of the first k targets
+-- The inputs of an item. Assumes nothing.
 use Prim.Native.Nat.{ℕ, _+_, _<_, _≤_}
-use native.Mathlib.Nat.{eq-or-lt-of-le}
 use native.Mathlib.Numerals.{add-one}
 use native.Mathlib.Omega.{arith}
-use mathlib.Core.Path.{_≡_, sym, ap, subst, _∙_}
+use mathlib.Core.Path.{_≡_, sym, ap, _∙_}
 use mathlib.Core.List.{List}
 use mathlib.Core.Bool.{Bool, true, false, _&&_}
-use mathlib.Core.Logic.{⊎-elim}
-use lib.ListN.{length, getD, set, drop, drop-of-length-le}
-use lib.Seq.{getD-set-same, getD-set-other, drop-cons}
+use lib.ListN.{length, getD, drop, drop-of-length-le}
+use lib.Seq.{drop-cons}
 use Rattle.boxes.specs.Types.{image}
 use Rattle.contents.specs.File.{File}
 use Rattle.rules.specs.Joined.{targetsOf, rowOf, itemAt}
@@ -20,27 +17,7 @@ use Rattle.views.proofs.LookupLaws.{row-listed}
 use Rattle.views.proofs.TableLaws.{row-small, test-read}
 use Rattle.derived.specs.inner.Told.{Resolved}
 
--- Resolved
-abbrev pub ResolvedTo : List ℕ → List ℕ → File → ℕ → Type 0
-ResolvedTo t rows f k = (i : ℕ) → i < k → getD rows i 0 ≡ rowOf (getD t (7184 + i) 0) (f .items)
-
-pub resolved-more : (t rows : List ℕ) (f : File) (k id row : ℕ) → k < length rows → id ≡ getD t (7184 + k) 0 →
-    row ≡ rowOf id (f .items) → ResolvedTo t rows f k → ResolvedTo t (set rows k row) f (k + 1)
-resolved-more t rows f k id row h d e w i l =
-    ⊎-elim
-    (λ z. subst (λ (m : ℕ). getD (set rows k row) m 0 ≡ rowOf (getD t (7184 + m) 0) (f .items)) (sym z)
-    (getD-set-same rows k row 0 h ∙ e ∙ ap (λ (a : ℕ). rowOf a (f .items)) d))
-    (λ z. getD-set-other rows k i row 0 (λ q. absurd (omega arith)) ∙ w i z)
-    (eq-or-lt-of-le {n = i} {m = k} (omega arith))
-
 module _ {t head : List ℕ} {pl : Places} {f : File} (v : TableOf t head pl f) where
-  -- the whole is resolved where as many are as the table has targets
-  pub resolved-all : (rows : List ℕ) (n k : ℕ) → n ≡ getD t 3 0 → n < k + 1 → ResolvedTo t rows f k → Resolved t rows f
-  resolved-all rows n k e l w i h = w i (omega (arith, v .targets))
-
-  pub targets-few : (n : ℕ) → n ≡ getD t 3 0 → n < 2049
-  targets-few n e = omega (arith, v .targets, v .bounded .few-targets)
-
   -- the inputs of the item in a row
   module _ (r : ℕ) (h : r < length (f .items)) where
     pub inputs-counted : (n : ℕ) → (r < 256 → n ≡ recordWord t r 6) → n ≡ length (targetsOf f (idOf f r))

@@ -1,3 +1,5 @@
 pub mod InputLaws
 pub mod BodyLaws
+pub mod JoinedLaws
+pub mod SaidLaws
 pub mod RecipeLaws

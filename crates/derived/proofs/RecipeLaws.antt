@@ -8,28 +8,28 @@ use lib.ListN.{length}
 use lib.Dec.{eqb, ltb}
 use borrow.Author.Tests.{eq-eqb, ne-eqb, lt-ltb, le-ltb}
 use Rattle.fields.specs.Choice.{pick}
-use Rattle.fields.specs.Field.{beAt}
 use Rattle.fields.proofs.FieldLaws.{both, pick-yes, pick-no}
 use Rattle.fields.proofs.TestLaws.{both-and, and-none}
 use Rattle.boxes.specs.Answer.{Answer, ok, refuse, check, _>>=_, _>>_}
 use Rattle.boxes.specs.Types.{iden, grid, coded, derived}
-use Rattle.boxes.proofs.AnswerLaws.{then-ok, ok-then, ok-check, ok-inj}
+use Rattle.boxes.proofs.AnswerLaws.{then-ok, ok-then, ok-check, ok-inj, bind-assoc, refuse-bind}
 use Rattle.forms.specs.Form.{whole}
 use Rattle.contents.specs.Iinf.{Item}
 use Rattle.contents.specs.File.{File}
-use Rattle.pictures.specs.Recipe.{Recipe, Coded, Copy, Opaque, Tiles, Layers, Grid, Overlay, fieldBytes, grid-form, iovl-form}
-use Rattle.pictures.specs.inner.Told.{toldGrid, toldOverlay}
+use Rattle.pictures.specs.Recipe.{Recipe, Coded, Copy, Opaque, Tiles, Layers, Grid, Overlay, grid-form, iovl-form}
+use Rattle.pictures.specs.inner.Told.{toldGrid}
 use Rattle.pictures.specs.declared.GridRead.the-variants as tiles
 use Rattle.pictures.specs.declared.OverlayRead.the-variants as layers
 use Rattle.pictures.proofs.RefusedLaws.{Refused, refused-ok}
-use Rattle.pictures.proofs.GridLaws.{grid-length, told-grid, told-no-grid}
-use Rattle.pictures.proofs.OverlayLaws.{iovl-length, told-overlay, told-no-overlay}
+use Rattle.pictures.proofs.GridLaws.{told-grid, told-no-grid}
+use Rattle.pictures.proofs.OverlayLaws.{told-overlay, told-no-overlay}
 use Rattle.rules.specs.Joined.{locationOf, targetsOf}
 use Rattle.rules.specs.Derivations.{nothingIn, allImages, itsBody, copyOf, tilesOf, layersOf, recipeFor, asRule17, recipeOf}
 use Rattle.rules.specs.Rules.{rule17}
 use Rattle.views.specs.inner.Told.{faultOf}
 use Rattle.rules.proofs.DerivationLaws.{nothing-none, nothing-some, body-read, rule-17-ok}
-use Rattle.derived.specs.inner.Told.{bodyOr, derivationFor, toldDerivation}
+use Rattle.derived.proofs.BodyLaws.{body-none}
+use Rattle.derived.specs.inner.Told.{gridIn, OverlayIs, derivationFor, toldDerivation}
 use Rattle.derived.specs.declared.Derivation.{Derivation}
 use Rattle.derived.specs.declared.Derivation.the-variants as made
 
@@ -57,55 +57,55 @@ checked-yes n p t m e = ap toldDerivation (check-then n p t m e)
 checked-no : (n p : ℕ) (t : Bool) (m : Answer Recipe) → t ≡ false → toldDerivation (check n p t >> m) ≡ made.Wrong
 checked-no n p t m e = told-refused _ (check-refused n p t m e)
 
--- a body that is read by w, which reads nothing from no bytes
-module _ {A : Type 0} (w : List ℕ → Answer A) (none : Refused (w [])) (g : A → Answer Recipe) where
-  read-refused : (m : Answer (List ℕ)) → Refused (w (bodyOr m)) → toldDerivation (m >>= (λ b. w b >>= g)) ≡ made.Wrong
-  unfolding bodyOr _>>=_ toldDerivation
-  read-refused (ok b) r = ap (λ (x : Answer A). toldDerivation (x >>= g)) (r .2)
-  read-refused (refuse n p) r = refl
-
-  read-ok : (m : Answer (List ℕ)) (a : A) → w (bodyOr m) ≡ ok a → toldDerivation (m >>= (λ b. w b >>= g)) ≡ toldDerivation (g a)
-  unfolding bodyOr _>>=_
-  read-ok (ok b) a e = ap (λ (x : Answer A). toldDerivation (x >>= g)) e
-  read-ok (refuse n p) a e = absurd (refused-ok (w []) a none e)
-
-  -- where no value will do
-  read-never : ((a : A) → toldDerivation (g a) ≡ made.Wrong) → (m : Answer (List ℕ)) → toldDerivation (m >>= (λ b. w b >>= g)) ≡ made.Wrong
+-- what is read, by g: refused, a value, or one that no value will do for
+module _ {A : Type 0} (g : A → Answer Recipe) where
+  read-refused : (m : Answer A) → Refused m → toldDerivation (m >>= g) ≡ made.Wrong
   unfolding _>>=_ toldDerivation
-  read-never h (ok b) = by (w b)
-    where
-      by : (x : Answer A) → toldDerivation (x >>= g) ≡ made.Wrong
-      by (ok a) = h a
-      by (refuse n p) = refl
+  read-refused m r = ap (λ (x : Answer A). toldDerivation (x >>= g)) (r .2)
+
+  read-ok : (m : Answer A) (a : A) → m ≡ ok a → toldDerivation (m >>= g) ≡ toldDerivation (g a)
+  unfolding _>>=_
+  read-ok m a e = ap (λ (x : Answer A). toldDerivation (x >>= g)) e
+
+  read-never : ((a : A) → toldDerivation (g a) ≡ made.Wrong) → (m : Answer A) → toldDerivation (m >>= g) ≡ made.Wrong
+  unfolding _>>=_ toldDerivation
+  read-never h (ok a) = h a
   read-never h (refuse n p) = refl
 
--- no bytes are no body
-no-grid : Refused (whole grid-form 0 [])
-no-grid = grid-length 0 [] (fieldBytes (beAt [] 1 1)) refl (λ e. omega arith)
+-- OverlayIs: what is refused, and what is a value
+overlay-refused : (m : Answer (List ℕ)) (n : ℕ) → OverlayIs m n layers.Wrong → Refused (m >>= whole (iovl-form n) 0)
+unfolding _>>=_
+overlay-refused (ok b) n e = told-no-overlay b _ (sym e)
+overlay-refused (refuse k p) n e = (k, p, refl)
 
-no-overlay : (n : ℕ) → Refused (whole (iovl-form n) 0 [])
-no-overlay n = iovl-length 0 [] n (fieldBytes (beAt [] 1 1)) refl (λ e. omega arith)
+overlay-read : (m : Answer (List ℕ)) (n w h k : ℕ) → OverlayIs m n (layers.Is w h k) →
+    (o : Overlay) × ((m >>= whole (iovl-form n) 0) ≡ ok o) × (o .wide ≡ w) × (o .high ≡ h)
+unfolding _>>=_
+overlay-read (ok b) n w h k e = let o = told-overlay b _ w h k (sym e) in (o .overlay, o .is, o .wide, o .high)
+overlay-read (refuse i p) n w h k e = let z : _≡_ {A = ℕ} 0 1 = cc in absurd (omega arith)
 
--- tilesOf, b being the body
-module _ (total : ℕ) (head : List ℕ) (f : File) (item : Item) (b : List ℕ) (body : b ≡ bodyOr (itsBody total head f item)) where
+-- tilesOf
+module _ (total : ℕ) (head : List ℕ) (f : File) (item : Item) where
   abbrev tile : Grid → Answer Recipe
   tile g = check 17 (item .id) (eqb (length (targetsOf f (item .id))) (g .rows * g .columns)) >> ok (Tiles g)
 
-  grid-same : toldGrid (whole grid-form 0 b) ≡ toldGrid (whole grid-form 0 (bodyOr (itsBody total head f item)))
-  grid-same = rw (← body)
+  abbrev its-grid : Answer Grid
+  its-grid = gridIn (itsBody total head f item)
 
-  pub tiles-wrong : tiles.Wrong ≡ toldGrid (whole grid-form 0 b) → made.Wrong ≡ toldDerivation (tilesOf total head f item)
+  tiles-read : toldDerivation (tilesOf total head f item) ≡ toldDerivation (its-grid >>= tile)
   unfolding tilesOf
-  tiles-wrong e = sym (read-refused (whole grid-form 0) no-grid tile (itsBody total head f item) (told-no-grid _ (sym (e ∙ grid-same))))
+  tiles-read = ap toldDerivation (sym (bind-assoc (itsBody total head f item) (whole grid-form 0) tile))
 
-  module _ (r c w h : ℕ) (e : tiles.Is r c w h ≡ toldGrid (whole grid-form 0 b)) where
+  pub tiles-wrong : tiles.Wrong ≡ toldGrid its-grid → made.Wrong ≡ toldDerivation (tilesOf total head f item)
+  tiles-wrong e = sym (tiles-read ∙ read-refused tile its-grid (told-no-grid _ (sym e)))
+
+  module _ (r c w h : ℕ) (e : tiles.Is r c w h ≡ toldGrid its-grid) where
     abbrev read-tiles : Recipe
     read-tiles = Tiles (record { rows = r; columns = c; wide = w; high = h })
 
     tiles-told : toldDerivation (tilesOf total head f item) ≡ toldDerivation
         (check 17 (item .id) (eqb (length (targetsOf f (item .id))) (r * c)) >> ok read-tiles)
-    unfolding tilesOf
-    tiles-told = read-ok (whole grid-form 0) no-grid tile (itsBody total head f item) _ (told-grid _ r c w h (sym (e ∙ grid-same)))
+    tiles-told = tiles-read ∙ read-ok tile its-grid _ (told-grid _ r c w h (sym e))
 
     module _ (n : ℕ) (counted : n ≡ length (targetsOf f (item .id))) where
       pub tiles-is : n ≡ r * c → made.Tiles r c w h ≡ toldDerivation (tilesOf total head f item)
@@ -139,31 +139,31 @@ module _ (total : ℕ) (head : List ℕ) (f : File) (item : Item) (n : ℕ) (cou
   abbrev lay : Overlay → Answer Recipe
   lay o = check 17 (item .id) (ltb 0 (length (targetsOf f (item .id)))) >> ok (Layers o)
 
-  pub layers-none : n ≡ 0 → made.Wrong ≡ toldDerivation (layersOf total head f item)
+  abbrev its-overlay : Answer Overlay
+  its-overlay = itsBody total head f item >>= whole (iovl-form (length (targetsOf f (item .id)))) 0
+
+  layers-read : toldDerivation (layersOf total head f item) ≡ toldDerivation (its-overlay >>= lay)
   unfolding layersOf
-  layers-none e = sym (read-never (whole (iovl-form (length (targetsOf f (item .id)))) 0) (no-overlay _) lay
-      (λ o. checked-no 17 (item .id) _ (ok (Layers o)) (le-ltb 0 (length (targetsOf f (item .id))) (omega arith)))
-      (itsBody total head f item))
+  layers-read = ap toldDerivation (sym (bind-assoc (itsBody total head f item) (whole (iovl-form (length (targetsOf f (item .id)))) 0) lay))
 
-  module _ (b : List ℕ) (body : b ≡ bodyOr (itsBody total head f item)) where
-    overlay-same : toldOverlay b (whole (iovl-form n) 0 b) ≡ toldOverlay (bodyOr (itsBody total head f item))
-        (whole (iovl-form (length (targetsOf f (item .id)))) 0 (bodyOr (itsBody total head f item)))
-    overlay-same = rw (← body, ← counted)
+  pub layers-none : n ≡ 0 → made.Wrong ≡ toldDerivation (layersOf total head f item)
+  layers-none e = sym (layers-read ∙ read-never lay
+      (λ o. checked-no 17 (item .id) _ (ok (Layers o)) (le-ltb 0 (length (targetsOf f (item .id))) (omega arith))) its-overlay)
 
-    pub layers-wrong : layers.Wrong ≡ toldOverlay b (whole (iovl-form n) 0 b) → made.Wrong ≡ toldDerivation (layersOf total head f item)
-    unfolding layersOf
-    layers-wrong e = sym (read-refused (whole (iovl-form (length (targetsOf f (item .id)))) 0) (no-overlay _) lay
-        (itsBody total head f item) (told-no-overlay _ _ (sym (e ∙ overlay-same))))
+  pub layers-wrong : OverlayIs (itsBody total head f item) n layers.Wrong → made.Wrong ≡ toldDerivation (layersOf total head f item)
+  layers-wrong e =
+      sym (layers-read ∙ read-refused lay its-overlay (overlay-refused _ _ (subst (λ (k : ℕ). OverlayIs (itsBody total head f item) k layers.Wrong) counted e)))
 
-    pub layers-is : (w h k : ℕ) → layers.Is w h k ≡ toldOverlay b (whole (iovl-form n) 0 b) → (n ≡ 0 → ⊥) →
-        made.Layers w h ≡ toldDerivation (layersOf total head f item)
-    unfolding layersOf toldDerivation
-    layers-is w h k e some =
-        let o = told-overlay _ _ w h k (sym (e ∙ overlay-same)) in
-        sym
-        (read-ok (whole (iovl-form (length (targetsOf f (item .id)))) 0) (no-overlay _) lay (itsBody total head f item) (o .overlay) (o .is)
-        ∙ checked-yes 17 (item .id) _ (ok (Layers (o .overlay))) (lt-ltb 0 (length (targetsOf f (item .id))) (omega (arith, some)))
-        ∙ rw (o .wide, o .high))
+  pub layers-is : (w h k : ℕ) → OverlayIs (itsBody total head f item) n (layers.Is w h k) → (n ≡ 0 → ⊥) →
+      made.Layers w h ≡ toldDerivation (layersOf total head f item)
+  unfolding toldDerivation
+  layers-is w h k e some =
+      let o = overlay-read _ _ w h k (subst (λ (i : ℕ). OverlayIs (itsBody total head f item) i (layers.Is w h k)) counted e) in
+      sym
+      (layers-read
+      ∙ read-ok lay its-overlay (o .0) (o .1)
+      ∙ checked-yes 17 (item .id) _ (ok (Layers (o .0))) (lt-ltb 0 (length (targetsOf f (item .id))) (omega (arith, some)))
+      ∙ rw (o .2, o .3))
 
 -- derivationFor, by the type of the item
 module _ (total : ℕ) (head : List ℕ) (f : File) (item : Item) where
@@ -176,6 +176,15 @@ module _ (total : ℕ) (head : List ℕ) (f : File) (item : Item) where
 
     pub type-layers : (item .type ≡ grid → ⊥) → toldDerivation (layersOf total head f item) ≡ toldDerivation (derivationFor total head f item)
     type-layers e = sym (ap toldDerivation (pick-no _ _ (ne-eqb _ iden other) ∙ pick-no _ _ (ne-eqb _ grid e)))
+
+  -- without a body there is none: an item without extents has one, which is empty
+  pub bodyless : Refused (itsBody total head f item) → Refused (derivationFor total head f item)
+  unfolding copyOf tilesOf layersOf
+  bodyless r =
+      both (λ (m : Answer Recipe). Refused m) _ _ _
+      (λ q. check-refused 17 (item .id) _ (ok Copy) (and-none (eqb (length (targetsOf f (item .id))) 1) _
+      (nothing-some (locationOf f (item .id) .extents) (λ z. refused-ok _ [] r (body-none total head f (item .id) z)))))
+      (λ q. both (λ (m : Answer Recipe). Refused m) _ _ _ (λ x. (r .0, r .1, refuse-bind _ _ _ (r .2) _)) (λ x. (r .0, r .1, refuse-bind _ _ _ (r .2) _)))
 
 -- derivationFor gives what derivations make, and nothing else
 abbrev Made : Recipe → Type 0
@@ -218,6 +227,10 @@ told-right (ok r) n = (r, refl)
 told-right (refuse k p) n = absurd (n refl)
 
 -- rule17
+unfaulted : (m : Answer (Unit {0})) → m ≡ ok tt → 17 ≡ faultOf m → ⊥
+unfolding faultOf
+unfaulted m e q = let z : _≡_ {A = ℕ} 17 0 = q ∙ ap faultOf e in omega arith
+
 module _ (total : ℕ) (head : List ℕ) (f : File) (item : Item) where
   for-refused : Refused (recipeFor total head f item) → 17 ≡ faultOf (rule17 total head f item)
   unfolding rule17 asRule17 faultOf _>>=_
@@ -257,6 +270,17 @@ module _ (total : ℕ) (head : List ℕ) (f : File) (item : Item) where
     -- the recipe is what the derivation makes
     pub derived-recipe : (r : Recipe) → recipeOf total head f item ≡ ok r → derivationFor total head f item ≡ ok r
     derived-recipe r e = then-ok _ _ r (sym recipe-derived ∙ rule-17-ok (item .id) (recipeFor total head f item) r e) .2
+
+    pub derived-bodyless : Refused (itsBody total head f item) → 17 ≡ faultOf (rule17 total head f item)
+    derived-bodyless r = for-refused (rw recipe-derived (then-refused 17 (item .id) _ _ (bodyless total head f item r)))
+
+    -- so that an item that keeps 17 has a body
+    pub fed-body : rule17 total head f item ≡ ok tt → (b : List ℕ) × (itsBody total head f item ≡ ok b)
+    fed-body e = by (itsBody total head f item) refl
+      where
+        by : (m : Answer (List ℕ)) → itsBody total head f item ≡ m → (b : List ℕ) × (itsBody total head f item ≡ ok b)
+        by (ok b) z = (b, z)
+        by (refuse n p) z = absurd (unfaulted _ e (derived-bodyless (n, p, z)))
 
     module _ (x : Derivation) (told : x ≡ toldDerivation (derivationFor total head f item)) where
       pub derived-wrong : x ≡ made.Wrong → 17 ≡ faultOf (rule17 total head f item)

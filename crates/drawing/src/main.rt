@@ -92,17 +92,26 @@ fn read_request() -> Request {
 }
 
 // The picture of an item that `size` answers for, and a seam through points that were answered.
-fn draw_listed(head: &[u8], table: &[u32], id: ItemId, points: &[[u32; 9]]) {
+fn draw_listed(head: &[u8], table: &[u32], rows: &[u32], id: ItemId, points: &[[u32; 9]]) {
     let found = views::row_named(table, id, ItemRow(0));
     match found {
-        FoundRow::At(row) => sketch::draw_item(head, table, row, points),
+        FoundRow::At(row) => sketch::draw_item(head, table, rows, row, points),
         FoundRow::Nothing => {}
     }
 }
 
 fn draw_along(head: &[u8], total: u64, table: &mut [u32], id: ItemId, points: &mut [[u32; 9]]) {
     still::point_numbers(head, total, &mut *table, id, &mut *points);
-    draw_listed(head, &*table, id, &*points);
+    let mut rows = new_rows();
+    opening::open_rows(head, total, &mut *table, &mut rows);
+    draw_listed(head, &*table, &rows, id, &*points);
+}
+
+// Room for the rows that opening finds.
+fn new_rows() -> [u32; 2816]
+    ensures { λ r. ⌜ 2816 ≡ length r ⌝ }
+{
+    [0; 2816]
 }
 
 // Room for the points of a seam.

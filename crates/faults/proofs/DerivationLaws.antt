@@ -1,32 +1,34 @@
--- 17: the recipe of an item is refused exactly where its derivation is wrong. Assumes nothing.
+-- 17: the recipe of an item is refused exactly where its derivation is wrong, the item being one that 30 lets pass, as 17 is asked only
+-- where all items are such. Assumes nothing.
 --   Denies m W     m is refused where W is there, and a value where it is not
-use Prim.Native.Nat.{ℕ, _+_, _*_, _≤_, _<_}
+use Prim.Native.Nat.{ℕ, _*_, _<_}
 use native.Mathlib.Omega.{arith}
 use mathlib.Core.Path.{_≡_, refl, sym, ap, _∙_}
 use mathlib.Core.List.{List, [], _∷_}
 use mathlib.Core.Bool.{Bool, true, false, _&&_, _||_}
 use mathlib.Core.Logic.{_⊎_, inl, inr}
-use lib.ListN.{length, take, drop}
-use lib.Dec.{leb, ltb, eqb}
-use borrow.Author.Tests.{leb-true, le-leb, ltb-true, lt-ltb, eqb-true, eq-eqb}
+use lib.ListN.{length}
+use lib.Dec.{eqb}
+use borrow.Author.Tests.{ltb-true, lt-ltb, eqb-true, eq-eqb}
 use Rattle.fields.specs.Choice.{pick}
-use Rattle.fields.proofs.FieldLaws.{both, pick-yes}
 use Rattle.fields.proofs.TestLaws.{untrue, or-either}
 use Rattle.boxes.specs.Answer.{Answer, ok, refuse, check, _>>=_, _>>_}
 use Rattle.boxes.specs.Types.{iden, grid, iovl, derived, image, coded}
-use Rattle.boxes.proofs.AnswerLaws.{bind-ok, ok-bind, then-ok, ok-then, check-ok, ok-check, ok-inj}
+use Rattle.boxes.proofs.AnswerLaws.{bind-ok, ok-bind, then-ok, ok-then, check-ok, ok-check}
 use Rattle.forms.specs.Form.{Form, whole}
 use Rattle.forms.proofs.WholeLaws.{whole-sound, whole-complete}
 use Rattle.contents.specs.Iinf.{Item}
-use Rattle.contents.specs.Iloc.{Extent, Location}
+use Rattle.contents.specs.Iloc.{Location}
 use Rattle.contents.specs.File.{File}
 use Rattle.pictures.specs.Recipe.{Recipe, Coded, Opaque, Tiles, Layers, Grid, Overlay, grid-form, iovl-form}
 use Rattle.rules.specs.Joined.{locationOf, targetsOf, rowOf, itemAt}
-use Rattle.rules.specs.Bytes.{Store, storeOf, bodyBy, bodyIn}
-use Rattle.rules.specs.Derivations.{nothingIn, allImages, copyOf, tilesOf, layersOf, recipeFor, asRule17, recipeOf}
+use Rattle.rules.specs.Bytes.{chained}
+use Rattle.rules.specs.Bodies.{ItsBody}
+use Rattle.rules.specs.Derivations.{nothingIn, allImages, itsBody, copyOf, tilesOf, layersOf, recipeFor, asRule17, recipeOf}
 use Rattle.rules.specs.Rules.{rule17}
 use Rattle.rules.proofs.DerivationLaws.{rule-17-ok}
-use Rattle.faults.specs.Fault.{Any, Not, BodyIs, WrongDerivation, not-derived, no-picture, copy-inputs, copy-extents, no-tiles, no-layers}
+use Rattle.rules.proofs.ByteLaws.{body-joined}
+use Rattle.faults.specs.Fault.{Any, Not, WrongDerivation, not-derived, no-picture, copy-inputs, copy-extents, no-tiles, no-layers}
 use Rattle.faults.proofs.TellsLaws.{Tells, tells-as, tells-and, tells-itself, tells-equal, tells-each}
 
 pub record Denies {A : Type 0} (m : Answer A) (W : Type 0) : Type 0 where
@@ -66,45 +68,38 @@ denies-pick false a b {W} {U} k l = denies-as (λ u. inr (refl, u)) by (l refl)
     by (inl w) = untrue (w .0)
     by (inr u) = u .1
 
--- bodyIn
-body-sound : (st : Store) (l : Location) (b : List ℕ) (es : List Extent) → l .extents ≡ es → bodyBy st (l .base) es ≡ ok b → BodyIs st l b
-unfolding bodyBy
-body-sound st l b [] q = λ e. let z : _≡_ {A = ℕ} 0 1 = cc in absurd (omega arith)
-body-sound st l b (x ∷ []) q =
-    both (λ (m : Answer (List ℕ)). m ≡ ok b → BodyIs st l b) _ _ _
-    (λ t e. record { extent = x; one = q; inside = leb-true _ _ t; bytes = sym (ok-inj _ b e) })
-    (λ t e. let z : _≡_ {A = ℕ} 0 1 = cc in absurd (omega arith))
-body-sound st l b (x ∷ y ∷ es) q = λ e. let z : _≡_ {A = ℕ} 0 1 = cc in absurd (omega arith)
-
-body-complete : (st : Store) (l : Location) (b : List ℕ) → BodyIs st l b → bodyIn st l ≡ ok b
-unfolding bodyBy
-body-complete st l b h = rw (h .one) (pick-yes _ _ (le-leb _ _ (h .inside)) ∙ ap ok (sym (h .bytes)))
-
 nothing-there : {A : Type 0} (l : List A) → Tells (nothingIn l) (Not (l ≡ []))
 nothing-there [] = record { there = λ e. untrue (sym e); absent = λ e w. w refl }
 nothing-there (x ∷ xs) = record { there = λ e q. let z : _≡_ {A = ℕ} 0 1 = cc in omega arith; absent = λ e w. untrue e }
 
-module _ (total : ℕ) (head : List ℕ) (f : File) (item : Item) where
+module _ (total : ℕ) (head : List ℕ) (f : File) (item : Item) (good : chained 8 f (item .id) ≡ true) where
   abbrev l : Location
   l = locationOf f (item .id)
 
-  abbrev st : Store
-  st = storeOf total head f (l .method)
+  abbrev Body : List ℕ → Type 0
+  Body b = ItsBody total head f (item .id) b
 
   abbrev ts : List ℕ
   ts = targetsOf f (item .id)
 
   abbrev Wrong : Type 0
-  Wrong = WrongDerivation f st l (item .type) ts
+  Wrong = WrongDerivation total head f (item .id) l (item .type) ts
 
   abbrev NoPicture : Type 0
   NoPicture = Any (λ (t : ℕ). image (itemAt f (rowOf t (f .items)) .type) ≡ false) ts
 
   abbrev NoTiles : Type 0
-  NoTiles = (b : List ℕ) (g : Grid) → BodyIs st l b → grid-form .Spells b g → length ts ≡ g .rows * g .columns → ⊥
+  NoTiles = (b : List ℕ) (g : Grid) → Body b → grid-form .Spells b g → length ts ≡ g .rows * g .columns → ⊥
 
   abbrev NoLayers : Type 0
-  NoLayers = (b : List ℕ) (o : Overlay) → BodyIs st l b → iovl-form (length ts) .Spells b o → 0 < length ts → ⊥
+  NoLayers = (b : List ℕ) (o : Overlay) → Body b → iovl-form (length ts) .Spells b o → 0 < length ts → ⊥
+
+  -- itsBody
+  body-sound : (b : List ℕ) → itsBody total head f item ≡ ok b → Body b
+  body-sound b = body-joined total head f (item .id) b good .0
+
+  body-complete : (b : List ℕ) → Body b → itsBody total head f item ≡ ok b
+  body-complete b = body-joined total head f (item .id) b good .1
 
   copy-denied : Denies (copyOf total head f item) ((Not (length ts ≡ 1) ⊎ Not (l .extents ≡ [])) ⊎ ⊥)
   unfolding copyOf
@@ -117,13 +112,13 @@ module _ (total : ℕ) (head : List ℕ) (f : File) (item : Item) where
       record {
         there = λ n p e b g h s q.
             never (Tiles g) n p
-            (sym (ok-bind _ _ b (body-complete st l b h) ∙ ok-bind _ _ g (whole-complete grid-form 0 b g s) ∙ ok-then _ _ tt (ok-check 17 _ _ (eq-eqb _ _ q)))
+            (sym (ok-bind _ _ b (body-complete b h) ∙ ok-bind _ _ g (whole-complete grid-form 0 b g s) ∙ ok-then _ _ tt (ok-check 17 _ _ (eq-eqb _ _ q)))
             ∙ e);
         absent = λ a e w.
             let x = bind-ok _ _ a e in
             let y = bind-ok _ _ a (x .2) in
             let z = then-ok _ _ a (y .2) in
-            w (x .0) (y .0) (body-sound st l _ _ refl (x .1)) (whole-sound grid-form 0 _ _ (y .1)) (eqb-true _ _ (check-ok 17 _ _ (z .0) (z .1)));
+            w (x .0) (y .0) (body-sound _ (x .1)) (whole-sound grid-form 0 _ _ (y .1)) (eqb-true _ _ (check-ok 17 _ _ (z .0) (z .1)));
       }
 
   layers-denied : Denies (layersOf total head f item) NoLayers
@@ -132,7 +127,7 @@ module _ (total : ℕ) (head : List ℕ) (f : File) (item : Item) where
       record {
         there = λ n p e b o h s q.
             never (Layers o) n p
-            (sym (ok-bind _ _ b (body-complete st l b h) ∙
+            (sym (ok-bind _ _ b (body-complete b h) ∙
             ok-bind _ _ o (whole-complete (iovl-form (length ts)) 0 b o s) ∙
             ok-then _ _ tt (ok-check 17 _ _ (lt-ltb _ _ q)))
             ∙ e);
@@ -140,7 +135,7 @@ module _ (total : ℕ) (head : List ℕ) (f : File) (item : Item) where
             let x = bind-ok _ _ a e in
             let y = bind-ok _ _ a (x .2) in
             let z = then-ok _ _ a (y .2) in
-            w (x .0) (y .0) (body-sound st l _ _ refl (x .1)) (whole-sound (iovl-form (length ts)) 0 _ _ (y .1)) (ltb-true _ _ (check-ok 17 _ _ (z .0) (z .1)));
+            w (x .0) (y .0) (body-sound _ (x .1)) (whole-sound (iovl-form (length ts)) 0 _ _ (y .1)) (ltb-true _ _ (check-ok 17 _ _ (z .0) (z .1)));
       }
 
   abbrev Joined : Type 0

@@ -1,5 +1,6 @@
--- Each test of rules 12 to 20 and 29 tells its fault. Assumes nothing.
-use Prim.Native.Nat.{ℕ, suc, _+_, _*_, _≤_, _<_}
+-- Each test of rules 12 to 20, 29 and 30 tells its fault: 14 of an item that 13 and 30 let pass, as only such an item is asked.
+-- Assumes nothing.
+use Prim.Native.Nat.{ℕ, zero, suc, _+_, _≤_, _<_}
 use native.Mathlib.Omega.{arith}
 use native.Mathlib.Nat.{zero-add}
 use mathlib.Core.Path.{_≡_, refl, sym, ap, _∙_}
@@ -8,11 +9,12 @@ use mathlib.Core.Bool.{Bool, true, false, _&&_, _||_, not}
 use mathlib.Core.Logic.{_⊎_, inl, inr}
 use lib.ListN.{length, getD, List·getD-eq-default}
 use lib.Dec.{leb, eqb}
-use borrow.Author.Tests.{leb-true, leb-false, le-leb, eqb-true, eqb-false, eq-eqb}
+use borrow.Author.Tests.{eqb-true, eqb-false, eq-eqb}
 use Rattle.fields.specs.Choice.{pick}
 use Rattle.fields.specs.Lists.{member}
 use Rattle.fields.proofs.FieldLaws.{both}
 use Rattle.fields.proofs.TestLaws.{untrue, and-both, both-and, or-either, member-there}
+use Rattle.boxes.specs.Answer.{ok}
 use Rattle.boxes.specs.Types.{ispe, hvc1, knownProperty, coded, image}
 use Rattle.boxes.specs.Box.{kindOf}
 use Rattle.contents.specs.Iinf.{Item}
@@ -20,10 +22,14 @@ use Rattle.contents.specs.Iloc.{Extent, Location}
 use Rattle.contents.specs.Ipma.{Association}
 use Rattle.contents.specs.File.{File}
 use Rattle.pictures.specs.Decode.{transform}
-use Rattle.rules.specs.Joined.{associationsOf, propertyAt, rowOf, noItem, itemAt}
-use Rattle.rules.specs.Bytes.{Store, allExtents, goodMethod, goodLengths, within}
+use Rattle.rules.specs.Joined.{locationOf, associationsOf, propertyAt, rowOf, noItem, itemAt}
+use Rattle.rules.specs.Bytes.{allExtents, goodMethod, goodLengths, named, chained, lengthOf, namesPast, sourceOf, byteOf, within}
+use Rattle.rules.specs.inner.Direct.{Store, storeOf}
+use Rattle.rules.specs.Links.{Among, BadChain}
 use Rattle.rules.specs.Derivations.{nothingIn}
-use Rattle.rules.specs.Rules.{goodPrimary, essentialKnown, configurations, oneMarked, configured, countOf, ispeBefore, goodIspe}
+use Rattle.rules.specs.Rules.{goodPrimary, hasBytes, essentialKnown, configurations, oneMarked, configured, countOf, ispeBefore, goodIspe}
+use Rattle.rules.proofs.ChainLaws.{thirty, names-past, named-link}
+use Rattle.rules.proofs.ByteLaws.{named-size, other-size}
 use Rattle.faults.specs.Fault.{
   Any,
   Not,
@@ -35,8 +41,12 @@ use Rattle.faults.specs.Fault.{
   method,
   reference,
   no-length,
+  endOf,
   WrongBytes,
-  past,
+  past-file,
+  past-idat,
+  past-item,
+  past-sum,
   without,
   NotReadable,
   protected,
@@ -85,39 +95,103 @@ tells-extents t P = tells-each t P (allExtents t) refl (λ x xs. refl)
 pub tells-place : (l : Location) → Tells (goodMethod l && goodLengths l) (WrongPlace l)
 tells-place l =
     tells-as to from
-    (tells-and (goodMethod l) (goodLengths l) (tells-and (leb (l .method) 1) (eqb (l .reference) 0) (tells-most _ 1)
+    (tells-and (goodMethod l) (goodLengths l) (tells-and (leb (l .method) 2) (eqb (l .reference) 0) (tells-most _ 2)
     (tells-equal _ 0)) (tells-extents _ (λ (e : Extent). e .size ≡ 0) (λ e. tells-other (e .size) 0) (l .extents)))
   where
-    to : ((1 < l .method) ⊎ Not (l .reference ≡ 0)) ⊎ Any (λ (e : Extent). e .size ≡ 0) (l .extents) → WrongPlace l
+    to : ((2 < l .method) ⊎ Not (l .reference ≡ 0)) ⊎ Any (λ (e : Extent). e .size ≡ 0) (l .extents) → WrongPlace l
     to (inl (inl m)) = method m
     to (inl (inr r)) = reference r
     to (inr a) = no-length a
 
-    from : WrongPlace l → ((1 < l .method) ⊎ Not (l .reference ≡ 0)) ⊎ Any (λ (e : Extent). e .size ≡ 0) (l .extents)
+    from : WrongPlace l → ((2 < l .method) ⊎ Not (l .reference ≡ 0)) ⊎ Any (λ (e : Extent). e .size ≡ 0) (l .extents)
     from (method m) = inl (inl m)
     from (reference r) = inl (inr r)
     from (no-length a) = inr a
 
--- 14, within and hasBytes
+-- 30, chained
+pub tells-chained : (f : File) (id : ℕ) → Tells (chained 8 f id) (BadChain f id)
+tells-chained f id = tells-as (thirty f id .0) (thirty f id .1) (tells-itself (chained 8 f id))
+
+-- Any, of what is known of each
+any-as : (P Q : Extent → Type 0) (es : List Extent) → ((e : Extent) → Among e es → P e → Q e) → Any P es → Any Q es
+any-as P Q (x ∷ es) h (inl p) = inl (h x (inl refl) p)
+any-as P Q (x ∷ es) h (inr a) = inr (any-as P Q es (λ e i. h e (inr i)) a)
+
 nothing-here : {A : Type 0} (l : List A) → nothingIn l ≡ true → l ≡ []
 nothing-here [] e = refl
 nothing-here (x ∷ xs) e = untrue e
 
-pub tells-bytes : (st : Store) (l : Location) (type : ℕ) → Tells (within st l && not (coded type && nothingIn (l .extents))) (WrongBytes st l type)
-tells-bytes st l type =
-    tells-as to from
-    (tells-and (within st l) (not (coded type && nothingIn (l .extents)))
-    (tells-extents _ (λ (e : Extent). st .size < l .base + e .offset + e .size)
-    (λ e. tells-most (l .base + e .offset + e .size) (st .size)) (l .extents)) (tells-not
-    (coded type && nothingIn (l .extents))))
-  where
-    to : Any (λ (e : Extent). st .size < l .base + e .offset + e .size) (l .extents) ⊎ ((coded type && nothingIn (l .extents)) ≡ true) → WrongBytes st l type
-    to (inl a) = past a
-    to (inr e) = let k = and-both (coded type) (nothingIn (l .extents)) e in without (k .0) (nothing-here (l .extents) (k .1))
+-- 14, namesPast, within and hasBytes
+module _ (total : ℕ) (head : List ℕ) (f : File) (i : Item) where
+  abbrev l : Location
+  l = locationOf f (i .id)
 
-    from : WrongBytes st l type → Any (λ (e : Extent). st .size < l .base + e .offset + e .size) (l .extents) ⊎ ((coded type && nothingIn (l .extents)) ≡ true)
-    from (past a) = inl a
-    from (without c e) = inr (both-and (coded type) (nothingIn (l .extents)) c (ap nothingIn e))
+  abbrev sourceSize : Extent → ℕ
+  sourceSize e = sourceOf total head f (byteOf total head f 8) (i .id) e .size
+
+  abbrev Past : Extent → Type 0
+  Past e = sourceSize e < endOf l e
+
+  abbrev PastFile : Extent → Type 0
+  PastFile e = total < endOf l e
+
+  abbrev PastIdat : Extent → Type 0
+  PastIdat e = length (f .idat) < endOf l e
+
+  abbrev PastItem : Extent → Type 0
+  PastItem e = (j : ℕ) × (named f (i .id) e ≡ ok j) × (lengthOf f j < endOf l e)
+
+  abbrev Wrong : Type 0
+  Wrong = WrongBytes total f (i .id) l (i .type)
+
+  -- how long the source is, by the method
+  stored-size : (e : Extent) (m : ℕ) → l .method ≡ m → eqb m 2 ≡ false →
+      sourceSize e ≡ storeOf total head f m .size
+  stored-size e m q t =
+      other-size total head f _ (i .id) e (ap (λ (m : ℕ). eqb m 2) q ∙ t) ∙ ap (λ (m : ℕ). storeOf total head f m .size) q
+
+  file-size : (e : Extent) → l .method ≡ 0 → sourceSize e ≡ total
+  unfolding pick
+  file-size e q = stored-size e 0 q refl
+
+  idat-size : (e : Extent) → l .method ≡ 1 → sourceSize e ≡ length (f .idat)
+  unfolding pick
+  idat-size e q = stored-size e 1 q refl
+
+  item-size : (e : Extent) (j : ℕ) → l .method ≡ 2 → named f (i .id) e ≡ ok j → sourceSize e ≡ lengthOf f j
+  item-size e j q z = named-size total head f _ (i .id) e j (ap (λ (m : ℕ). eqb m 2) q) z
+
+  -- an extent past its source, by the method
+  past-there : l .method ≤ 2 → chained 8 f (i .id) ≡ true → Any Past (l .extents) → Wrong
+  past-there few good a = by (l .method) refl
+    where
+      by : (m : ℕ) → l .method ≡ m → Wrong
+      by zero q = past-file q (any-as Past PastFile (l .extents) (λ e k p. let z = file-size e q in omega arith) a)
+      by (suc zero) q = past-idat q (any-as Past PastIdat (l .extents) (λ e k p. let z = idat-size e q in omega arith) a)
+      by (suc (suc zero)) q =
+          past-item q (any-as Past PastItem (l .extents) (λ e k p. let x = named-link f 7 (i .id) e good (ap (λ (m : ℕ). eqb m 2) q) k in
+          let z = item-size e (x .0) q (x .1) in (x .0, x .1, omega arith)) a)
+      by (suc (suc (suc m))) q = absurd (omega arith)
+
+  pub tells-bytes : l .method ≤ 2 → chained 8 f (i .id) ≡ true →
+      Tells (not (namesPast 8 f (i .id)) && (within total head f (i .id) && hasBytes f i)) Wrong
+  tells-bytes few good =
+      tells-as to from
+      (tells-and (not (namesPast 8 f (i .id))) _ (tells-not _)
+      (tells-and (within total head f (i .id)) (hasBytes f i)
+      (tells-extents _ Past (λ e. tells-most (endOf l e) (sourceSize e)) (l .extents)) (tells-not _)))
+    where
+      to : (namesPast 8 f (i .id) ≡ true) ⊎ (Any Past (l .extents) ⊎ ((coded (i .type) && nothingIn (l .extents)) ≡ true)) → Wrong
+      to (inl e) = past-sum (names-past f (i .id) good .0 e)
+      to (inr (inl a)) = past-there few good a
+      to (inr (inr e)) = let k = and-both (coded (i .type)) (nothingIn (l .extents)) e in without (k .0) (nothing-here (l .extents) (k .1))
+
+      from : Wrong → (namesPast 8 f (i .id) ≡ true) ⊎ (Any Past (l .extents) ⊎ ((coded (i .type) && nothingIn (l .extents)) ≡ true))
+      from (past-file q a) = inr (inl (any-as PastFile Past (l .extents) (λ e k p. let z = file-size e q in omega arith) a))
+      from (past-idat q a) = inr (inl (any-as PastIdat Past (l .extents) (λ e k p. let z = idat-size e q in omega arith) a))
+      from (past-item q a) = inr (inl (any-as PastItem Past (l .extents) (λ e k p. let z = item-size e (p .0) q (p .1) in let w = p .2 in omega arith) a))
+      from (past-sum w) = inl (names-past f (i .id) good .1 w)
+      from (without c e) = inr (inr (both-and (coded (i .type)) (nothingIn (l .extents)) c (ap nothingIn e)))
 
 -- 15, essentialKnown
 pub tells-readable : (f : File) (i : Item) → Tells (eqb (i .protection) 0 && essentialKnown f (associationsOf f (i .id))) (NotReadable f i)

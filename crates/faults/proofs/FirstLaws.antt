@@ -123,16 +123,17 @@ module _ (total : ℕ) (head : List ℕ) (f : File) where
   pub examines-none : (In : Number → ℕ → Type 0) → ((n : Number) (r : ℕ) → In n r → F n r → ⊥) → Examines (ok tt) In
   examines-none In h = record { good = λ e. h; first = λ i j e. let z : _≡_ {A = ℕ} 0 1 = cc in absurd (omega arith) }
 
-  -- one after the other: none of the later faults has its turn before one of the earlier
+  -- one after the other: none of the later faults has its turn before one of the earlier. The second is asked only where the first is
+  -- passed.
   pub examines-then : (a b : Answer (Unit {0})) (A B : Number → ℕ → Type 0) →
       ((n : Number) (r : ℕ) (m : Number) (q : ℕ) → A n r → B m q → Earlier (T m q) (T n r) → ⊥) → Examines a A →
-      Examines b B → Examines (a >> b) (λ n r. A n r ⊎ B n r)
+      (a ≡ ok tt → Examines b B) → Examines (a >> b) (λ n r. A n r ⊎ B n r)
   unfolding _>>_
-  examines-then (ok u) b A B apart k l = record { good = neither; first = λ i j e. second (l .first i j e) }
+  examines-then (ok u) b A B apart k l = record { good = neither; first = λ i j e. second (l refl .first i j e) }
     where
       neither : b ≡ ok tt → (n : Number) (r : ℕ) → A n r ⊎ B n r → F n r → ⊥
       neither e n r (inl a) = k .good refl n r a
-      neither e n r (inr b) = l .good e n r b
+      neither e n r (inr b) = l refl .good e n r b
 
       second : {i j : ℕ} → Finds B i j → Finds (λ n r. A n r ⊎ B n r) i j
       second x = record {
@@ -209,7 +210,7 @@ module _ (total : ℕ) (head : List ℕ) (f : File) where
       examines-as _ _ _ to from
       (examines-then _ _ (In k) (Rows In (suc k) (length is)) apart
       (rw add-zero at (h 0 (omega arith)))
-      (examines-rows g In stage lap w (suc k) is (λ j l. let z : k + suc j ≡ suc k + j = omega arith in rw z at (h (suc j) (omega arith)))))
+      (λ e. examines-rows g In stage lap w (suc k) is (λ j l. let z : k + suc j ≡ suc k + j = omega arith in rw z at (h (suc j) (omega arith)))))
     where
       apart : (n : Number) (r : ℕ) (m : Number) (q : ℕ) → In k n r → Rows In (suc k) (length is) m q → Earlier (T m q) (T n r) → ⊥
       apart n r m q a b y =

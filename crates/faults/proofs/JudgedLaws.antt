@@ -8,13 +8,14 @@ use mathlib.Core.List.{List, [], _∷_, map}
 use mathlib.Core.Bool.{Bool, true, false, _&&_}
 use mathlib.Core.Logic.{_⊎_, inl, inr}
 use lib.ListN.{length, getD}
-use lib.Dec.{eqb}
-use borrow.Author.Tests.{eqb-true, eq-eqb}
+use lib.Dec.{leb, eqb}
+use borrow.Author.Tests.{leb-true, eqb-true, eq-eqb}
 use Rattle.fields.specs.Choice.{pick}
 use Rattle.fields.proofs.FieldLaws.{both}
 use Rattle.fields.proofs.TestLaws.{untrue, and-both, both-and}
 use Rattle.boxes.specs.Answer.{Answer, ok, refuse, _>>_}
 use Rattle.boxes.specs.Types.{image}
+use Rattle.boxes.proofs.AnswerLaws.{then-ok, check-ok}
 use Rattle.contents.specs.Iinf.{Item}
 use Rattle.contents.specs.File.{File}
 use Rattle.pictures.specs.Turn.{AllFit}
@@ -23,13 +24,14 @@ use Rattle.pictures.specs.Depth.{depth, derivesItself}
 use Rattle.pictures.proofs.DecodeLaws.{turns-fit}
 use Rattle.pictures.proofs.DepthLaws.{itself-derives, derives-itself}
 use Rattle.rules.specs.Joined.{locationOf, boxesOf, typesOf, noItem, itemAt}
+use Rattle.rules.specs.Bytes.{goodMethod, chained}
 use Rattle.rules.specs.Derivations.{sceneOf}
-use Rattle.rules.specs.Rules.{inOrder, byDepth, rule12, rule13-14, rule15-29-16, rule17, rule18, rule19, rule20, judged}
+use Rattle.rules.specs.Rules.{inOrder, byDepth, rule12, rule13-30-14, rule15-29-16, rule17, rule18, rule19, rule20, judged}
 use Rattle.rules.proofs.SceneLaws.{turns-at}
-use Rattle.faults.specs.Fault.{Rule, Number, n12, n13, n14, n15, n29, n16, n17, n18, n19, n20, storeFor, ruleOf, Fault}
+use Rattle.faults.specs.Fault.{Rule, Number, n12, n13, n30, n14, n15, n29, n16, n17, n18, n19, n20, ruleOf, Fault}
 use Rattle.faults.specs.Order.{Earlier, orderOf, First}
 use Rattle.faults.proofs.TellsLaws.{Tells, tells-as, tells-not, tells-most}
-use Rattle.faults.proofs.FaultLaws.{tells-primary, tells-place, tells-bytes, tells-readable, tells-configured, tells-ispe}
+use Rattle.faults.proofs.FaultLaws.{tells-primary, tells-place, tells-chained, tells-bytes, tells-readable, tells-configured, tells-ispe}
 use Rattle.faults.proofs.DerivationLaws.{rule-17-there, rule-17-absent}
 use Rattle.faults.proofs.SizeLaws.{tells-sizes}
 use Rattle.faults.proofs.FirstLaws.{
@@ -68,7 +70,7 @@ ordered (x ∷ xs) (y ∷ ys) e = elim (decLt x y) [
 -- Number: a stage and a rank name one rule
 abbrev ofTurn : ℕ → ℕ → Number
 ofTurn stage rank =
-    pick (eqb stage 0) n12 (pick (eqb stage 1) (pick (eqb rank 0) n13 n14)
+    pick (eqb stage 0) n12 (pick (eqb stage 1) (pick (eqb rank 0) n13 (pick (eqb rank 1) n30 n14))
     (pick (eqb stage 2) (pick (eqb rank 0) n15 (pick (eqb rank 1) n29 n16))
     (pick (eqb stage 3) n17 (pick (eqb stage 4) n18 (pick (eqb stage 5) n19 n20)))))
 
@@ -77,6 +79,7 @@ module _ (total : ℕ) (head : List ℕ) (f : File) where
   unfolding pick
   turned n12 = refl
   turned n13 = refl
+  turned n30 = refl
   turned n14 = refl
   turned n15 = refl
   turned n29 = refl
@@ -156,12 +159,24 @@ module _ (total : ℕ) (head : List ℕ) (f : File) where
       }
 
   module _ (r : ℕ) (l : r < length (f .items)) where
-    placed-examined : Ex (rule13-14 total head f (itemAt f r)) (Two n13 n14 r)
-    unfolding rule13-14
+    -- 14 comes behind 13 and 30
+    bytes-apart : (n : Number) (a : ℕ) (m : Number) (q : ℕ) → Two n13 n30 r n a → J n14 r m q →
+        Earlier (orderOf total head f m q) (orderOf total head f n a) → ⊥
+    bytes-apart n a m q (inl i) = just-apart total head f n13 n14 r (omega arith) (omega arith) (omega arith) n a m q i
+    bytes-apart n a m q (inr i) = just-apart total head f n30 n14 r (omega arith) (omega arith) (omega arith) n a m q i
+
+    placed-examined : Ex (rule13-30-14 total head f (itemAt f r)) (Three n13 n30 n14 r)
+    unfolding rule13-30-14
     placed-examined =
-        examines-then total head f _ _ (J n13 r) (J n14 r) (just-apart total head f n13 n14 r (omega arith) (omega arith) (omega arith))
+        examines-then total head f _ _ (Two n13 n30 r) (J n14 r) bytes-apart
+        (examines-then total head f _ _ (J n13 r) (J n30 r) (just-apart total head f n13 n30 r (omega arith) (omega arith) (omega arith))
         (examines-check total head f n13 r _ (told n13 r l (tells-place (locationOf f (itemAt f r .id)))))
-        (examines-check total head f n14 r _ (told n14 r l (tells-bytes (storeFor total head f r) (locationOf f (itemAt f r .id)) (itemAt f r .type))))
+        (λ e. examines-check total head f n30 r _ (told n30 r l (tells-chained f (itemAt f r .id)))))
+        (λ e. let x = then-ok _ _ tt e in
+        let p = and-both (goodMethod (locationOf f (itemAt f r .id))) _ (check-ok 13 _ _ (x .0) (x .1)) in
+        let m = and-both (leb (locationOf f (itemAt f r .id) .method) 2) _ (p .0) in
+        examines-check total head f n14 r _
+        (told n14 r l (tells-bytes total head f (itemAt f r) (leb-true _ 2 (m .0)) (check-ok 30 _ _ tt (x .2)))))
 
     -- no fault of image items in an opaque one's row
     opaque-three : image (itemAt f r .type) ≡ false → (m : Number) (q : ℕ) → Three n15 n29 n16 r m q → F m q → ⊥
@@ -182,15 +197,15 @@ module _ (total : ℕ) (head : List ℕ) (f : File) where
         (λ e. examines-then total head f _ _ (Two n15 n29 r) (J n16 r) last-apart
         (examines-then total head f _ _ (J n15 r) (J n29 r) (just-apart total head f n15 n29 r (omega arith) (omega arith) (omega arith))
         (examines-check total head f n15 r _ (told n15 r l (tells-as (λ w. (e, w)) (λ w. w .1) (tells-readable f (itemAt f r)))))
-        (examines-check total head f n29 r _ (told n29 r l (tells-configured f (itemAt f r)))))
-        (examines-check total head f n16 r _ (told n16 r l (tells-as (λ w. (e, w)) (λ w. w .1) (tells-ispe (typesOf f (itemAt f r .id)))))))
+        (λ e. examines-check total head f n29 r _ (told n29 r l (tells-configured f (itemAt f r)))))
+        (λ q. examines-check total head f n16 r _ (told n16 r l (tells-as (λ w. (e, w)) (λ w. w .1) (tells-ispe (typesOf f (itemAt f r .id)))))))
         (λ e. examines-none total head f _ (opaque-three e))
 
-    derived-examined : Ex (rule17 total head f (itemAt f r)) (J n17 r)
-    derived-examined =
+    derived-examined : chained 8 f (itemAt f r .id) ≡ true → Ex (rule17 total head f (itemAt f r)) (J n17 r)
+    derived-examined good =
         examines-one total head f n17 r _
-        (λ e w. rule-17-absent total head f (itemAt f r) e (w .there))
-        (λ k p e. let x = rule-17-there total head f (itemAt f r) k p e in (x .0, record { listed = l; there = x .1 }))
+        (λ e w. rule-17-absent total head f (itemAt f r) good e (w .there))
+        (λ k p e. let x = rule-17-there total head f (itemAt f r) good k p e in (x .0, record { listed = l; there = x .1 }))
 
     itself-examined : Ex (rule18 s r (itemAt f r)) (J n18 r)
     unfolding rule18
@@ -233,7 +248,7 @@ module _ (total : ℕ) (head : List ℕ) (f : File) where
       examines-as total head f _ _ _ to from
       (examines-then total head f _ _ (Stage (At d)) (Laps n (suc d)) apart
       (stage-examined (rule20 s d) (At d) 6 d (at-within d) (λ r l. sized-examined r l d))
-      (depths-examined n (suc d)))
+      (λ e. depths-examined n (suc d)))
     where
       apart : (a : Number) (r : ℕ) (m : Number) (q : ℕ) → Stage (At d) a r → Laps n (suc d) m q →
           Earlier (orderOf total head f m q) (orderOf total head f a r) → ⊥
@@ -271,7 +286,7 @@ module _ (total : ℕ) (head : List ℕ) (f : File) where
   laps-stage : IsStage 6 (Laps 17 0)
   laps-stage n r i = at-within (0 + i .0) (0 + i .2 .0) .stage-is n r (i .2 .2)
 
-  next-stage : (k : ℕ) (a b : Answer (Unit {0})) (A B : Number → ℕ → Type 0) → Ex a A × Below k A → Ex b B →
+  next-stage : (k : ℕ) (a b : Answer (Unit {0})) (A B : Number → ℕ → Type 0) → Ex a A × Below k A → (a ≡ ok tt → Ex b B) →
       IsStage k B → Ex (a >> b) (λ n r. A n r ⊎ B n r) × Below (suc k) (λ n r. A n r ⊎ B n r)
   next-stage k a b A B x y st = (
     examines-then total head f a b A B
@@ -286,7 +301,7 @@ module _ (total : ℕ) (head : List ℕ) (f : File) where
 
   -- judged
   abbrev Early : Number → ℕ → Type 0
-  Early n r = ((((J n12 0 n r ⊎ Stage (Two n13 n14) n r) ⊎ Stage (Three n15 n29 n16) n r) ⊎ Stage (J n17) n r) ⊎ Stage (J n18) n r) ⊎ Stage (J n19) n r
+  Early n r = ((((J n12 0 n r ⊎ Stage (Three n13 n30 n14) n r) ⊎ Stage (Three n15 n29 n16) n r) ⊎ Stage (J n17) n r) ⊎ Stage (J n18) n r) ⊎ Stage (J n19) n r
 
   abbrev Asked : Number → ℕ → Type 0
   Asked n r = Early n r ⊎ Laps 17 0 n r
@@ -295,38 +310,63 @@ module _ (total : ℕ) (head : List ℕ) (f : File) where
   unfolding rule12
   primary-examined = examines-check total head f n12 0 _ (told n12 0 (omega arith) (tells-primary f))
 
-  placed-within : (r : ℕ) → Within total head f 1 0 r (Two n13 n14 r)
-  placed-within r = either-within (J n13 r) (J n14 r) 1 0 r (just-within n13 1 0 r refl refl) (just-within n14 1 0 r refl refl)
+  three-within : (a b c : Number) (stage r : ℕ) → Within total head f stage 0 r (J a r) → Within total head f stage 0 r (J b r) →
+      Within total head f stage 0 r (J c r) → Within total head f stage 0 r (Three a b c r)
+  three-within a b c stage r x y z =
+      either-within (Two a b r) (J c r) stage 0 r (either-within (J a r) (J b r) stage 0 r x y) z
+
+  placed-within : (r : ℕ) → Within total head f 1 0 r (Three n13 n30 n14 r)
+  placed-within r =
+      three-within n13 n30 n14 1 r (just-within n13 1 0 r refl refl) (just-within n30 1 0 r refl refl) (just-within n14 1 0 r refl refl)
 
   declared-within : (r : ℕ) → Within total head f 2 0 r (Three n15 n29 n16 r)
   declared-within r =
-      either-within (Two n15 n29 r) (J n16 r) 2 0 r
-      (either-within (J n15 r) (J n29 r) 2 0 r (just-within n15 2 0 r refl refl) (just-within n29 2 0 r refl refl))
-      (just-within n16 2 0 r refl refl)
+      three-within n15 n29 n16 2 r (just-within n15 2 0 r refl refl) (just-within n29 2 0 r refl refl) (just-within n16 2 0 r refl refl)
 
-  early-examined : Ex (rule12 f >> inOrder (λ r i. rule13-14 total head f i) 0 (f .items) >>
-      inOrder (λ r i. rule15-29-16 f i) 0 (f .items) >> inOrder (λ r i. rule17 total head f i) 0 (f .items) >>
+  -- the stages before 17; where they are passed every chain is good
+  abbrev Stored : Number → ℕ → Type 0
+  Stored n r = (J n12 0 n r ⊎ Stage (Three n13 n30 n14) n r) ⊎ Stage (Three n15 n29 n16) n r
+
+  abbrev stored : Answer (Unit {0})
+  stored =
+      rule12 f >> inOrder (λ r i. rule13-30-14 total head f i) 0 (f .items) >> inOrder (λ r i. rule15-29-16 f i) 0 (f .items)
+
+  stored-examined : Ex stored Stored × Below 3 Stored
+  stored-examined =
+      next-stage 2 _ _ _ _
+      (next-stage 1 _ _ _ _ (primary-examined, (λ n r i. let z = ap (λ (n : Number). ruleOf total head f n .stage) (i .0) in omega arith))
+      (λ e. stage-examined _ _ 1 0 placed-within placed-examined) (rows-stage _ 1 0 placed-within))
+      (λ e. stage-examined _ _ 2 0 declared-within declared-examined) (rows-stage _ 2 0 declared-within)
+
+  stored-chained : stored ≡ ok tt → (r : ℕ) → r < length (f .items) → chained 8 f (itemAt f r .id) ≡ true
+  stored-chained e r l = by (chained 8 f (itemAt f r .id)) refl
+    where
+      by : (t : Bool) → chained 8 f (itemAt f r .id) ≡ t → t ≡ true
+      by true q = refl
+      by false q =
+          absurd (stored-examined .0 .good e n30 r (inl (inr (r, l, inl (inr (refl, (omega arith))))))
+          (record { listed = l; there = tells-chained f (itemAt f r .id) .there q }))
+
+  early-examined : Ex (stored >> inOrder (λ r i. rule17 total head f i) 0 (f .items) >>
       inOrder (rule18 s) 0 (f .items) >> inOrder (rule19 s) 0 (f .items)) Early × Below 6 Early
   early-examined =
       next-stage 5 _ _ _ _
       (next-stage 4 _ _ _ _
-      (next-stage 3 _ _ _ _
-      (next-stage 2 _ _ _ _
-      (next-stage 1 _ _ _ _ (primary-examined, (λ n r i. let z = ap (λ (n : Number). ruleOf total head f n .stage) (i .0) in omega arith))
-      (stage-examined _ _ 1 0 placed-within placed-examined) (rows-stage _ 1 0 placed-within))
-      (stage-examined _ _ 2 0 declared-within declared-examined) (rows-stage _ 2 0 declared-within))
-      (stage-examined _ _ 3 0 (λ r. just-within n17 3 0 r refl refl) derived-examined) (rows-stage _ 3 0 (λ r. just-within n17 3 0 r refl refl)))
-      (stage-examined _ _ 4 0 (λ r. just-within n18 4 0 r refl refl) itself-examined) (rows-stage _ 4 0 (λ r. just-within n18 4 0 r refl refl)))
-      (stage-examined _ _ 5 0 (λ r. just-within n19 5 0 r refl refl) deep-examined) (rows-stage _ 5 0 (λ r. just-within n19 5 0 r refl refl))
+      (next-stage 3 _ _ _ _ stored-examined
+      (λ e. stage-examined _ _ 3 0 (λ r. just-within n17 3 0 r refl refl) (λ r l. derived-examined r l (stored-chained e r l)))
+      (rows-stage _ 3 0 (λ r. just-within n17 3 0 r refl refl)))
+      (λ e. stage-examined _ _ 4 0 (λ r. just-within n18 4 0 r refl refl) itself-examined) (rows-stage _ 4 0 (λ r. just-within n18 4 0 r refl refl)))
+      (λ e. stage-examined _ _ 5 0 (λ r. just-within n19 5 0 r refl refl) deep-examined) (rows-stage _ 5 0 (λ r. just-within n19 5 0 r refl refl))
 
   judged-examined : Ex (judged total head f) Asked
   unfolding judged
-  judged-examined = next-stage 6 _ _ _ _ early-examined (depths-examined 17 0) laps-stage .0
+  judged-examined = next-stage 6 _ _ _ _ early-examined (λ e. depths-examined 17 0) laps-stage .0
 
   -- every fault is asked for, but 20 of pictures deeper than 16
   asked-all : (n : Number) (r : ℕ) → F n r → Asked n r ⊎ ((n ≡ n20) × (16 < depth s r))
   asked-all n12 r w = let l = w .listed in inl (inl (inl (inl (inl (inl (inl (refl, (omega arith))))))))
-  asked-all n13 r w = inl (inl (inl (inl (inl (inl (inr (r, w .listed, inl (refl, (omega arith)))))))))
+  asked-all n13 r w = inl (inl (inl (inl (inl (inl (inr (r, w .listed, inl (inl (refl, (omega arith))))))))))
+  asked-all n30 r w = inl (inl (inl (inl (inl (inl (inr (r, w .listed, inl (inr (refl, (omega arith))))))))))
   asked-all n14 r w = inl (inl (inl (inl (inl (inl (inr (r, w .listed, inr (refl, (omega arith)))))))))
   asked-all n15 r w = inl (inl (inl (inl (inl (inr (r, w .listed, inl (inl (refl, (omega arith)))))))))
   asked-all n29 r w = inl (inl (inl (inl (inl (inr (r, w .listed, inl (inr (refl, (omega arith)))))))))

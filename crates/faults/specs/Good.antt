@@ -1,7 +1,7 @@
 -- Demand 2.
---   GoodFile total head f      without reading: f is a structure that the bytes spell (2 to 11), and it has no fault (12 to 20, 29)
+--   GoodFile total head f      without reading: f is a structure that the bytes spell (2 to 11), and it has no fault (12 to 20, 29, 30)
 --   Refused total head n p     where it is refused: its first fault of 2 to 11, which the bytes show; or the bytes spell a file,
---                              and the refusal is its first fault of 12 to 20 and 29
+--                              and the refusal is its first fault of 12 to 20, 29 and 30
 use Prim.Native.Nat.{ℕ}
 use mathlib.Core.Path.{_≡_}
 use mathlib.Core.List.{List}

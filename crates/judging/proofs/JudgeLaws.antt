@@ -1,5 +1,5 @@
 -- Judging a file that was read, from its table to that with sizes. Assumes nothing.
-use Prim.Native.Nat.{ℕ, _+_, _<_}
+use Prim.Native.Nat.{ℕ, _+_, _≤_, _<_}
 use native.Mathlib.Omega.{arith}
 use mathlib.Core.Path.{_≡_, refl, sym, ap, _∙_, subst}
 use mathlib.Core.List.{List, _++_}
@@ -19,20 +19,21 @@ use Rattle.rules.specs.Rules.{goodPrimary, inOrder, rule12, rule15-29-16, judge
 use Rattle.rules.specs.Words.{fileWords}
 use Rattle.records.specs.inner.Raw.{Bounded}
 use Rattle.records.specs.inner.Rows.{TargetsRowed}
+use Rattle.records.specs.inner.Named.{NamedIn}
 use Rattle.records.specs.declared.FoundRow.the-variants.{At}
 use Rattle.views.specs.inner.View.{TableOf, AllPlaced, AllFed}
 use Rattle.views.proofs.LookupLaws.{told-at, found-told}
 use Rattle.views.proofs.ViewLaws.{read-view, raw-judging, placed-view}
 use Rattle.views.proofs.FillLaws.{filled-none, filled-all, filled-target, words-sized}
 use Rattle.depths.specs.inner.Inputs.{InputsAre}
-use Rattle.derived.specs.inner.Told.{Resolved}
+use Rattle.derived.specs.inner.Told.{Resolved, Followed}
 use Rattle.sizing.specs.inner.Drawn.{Drawn}
 use Rattle.sizing.specs.inner.Told.{toldFilled}
 use Rattle.sizing.specs.declared.Filled.{Filled}
 use Rattle.sizing.specs.declared.Filled.the-variants as filled
 use Rattle.records.proofs.BoundLaws.{read-bounds}
-use Rattle.judging.specs.inner.Order.{ruleBy, restJudged, picturesJudged, Early, toldJudged, Read, RestBy, JudgedBy}
-use Rattle.judging.specs.declared.Rule.the-variants.{Placed, Derived}
+use Rattle.judging.specs.inner.Order.{ruleBy, placesJudged, restJudged, picturesJudged, Early, toldJudged, Read, RestBy, PlacesBy, JudgedBy}
+use Rattle.judging.specs.declared.Rule.the-variants.{Derived}
 use Rattle.judging.specs.declared.Judged.{Judged}
 use Rattle.judging.specs.declared.Judged.the-variants.{Good, Refused}
 use Rattle.judging.proofs.JudgedLaws.{told-off, told-on, told-good, fed-all}
@@ -44,14 +45,18 @@ unfolding _>>_
 then-then (ok u) b c = refl
 then-then (refuse n p) b c = refl
 
--- judged: 12, then 13 and 14, then the rest
+-- judged: 12, then 13, 30 and 14, then the rest
 module _ (total : ℕ) (head : List ℕ) (f : File) where
-  abbrev placedJudged : Answer (Unit {0})
-  placedJudged = inOrder (ruleBy Placed total head f) 0 (f .items)
+  abbrev fromPlaces : Answer (Unit {0})
+  fromPlaces = placesJudged total head f >> restJudged total head f
 
-  judged-parts : judged total head f ≡ (rule12 f >> (placedJudged >> restJudged total head f))
+  judged-parts : judged total head f ≡ (rule12 f >> fromPlaces)
   unfolding judged restJudged picturesJudged ruleBy
   judged-parts = simp then-then
+
+  passed : true ≡ goodPrimary f → (rule12 f >> fromPlaces) ≡ fromPlaces
+  unfolding rule12 check _>>_
+  passed e = rw (← e)
 
 -- the rows that were read beside the targets are those of the items that they name
 pub rowed-resolved : (t rows head : List ℕ) (pl : Places) (f : File) → TableOf t head pl f → TargetsRowed t rows → Resolved t rows f
@@ -73,54 +78,67 @@ module _ (head t x : List ℕ) (total idat : ℕ) (f : File) (w : Read t head to
   pub read-here : TableOf t head (placesIn total head) f
   read-here = subst (λ (u : List ℕ). TableOf u head (placesIn total head) f) (sym (w .is)) (read-view total head f x (w .read))
 
-  pub early : (rows : List ℕ) → Resolved t rows f → Early t rows head total idat f
-  early rows r =
+  pub early : Early t head total idat f
+  early =
       record {
         view = read-here;
         judging = rw (w .is) (raw-judging total (placesIn total head) f x);
         ends = w .ends;
-        resolved = r;
       }
+
+  pub followed : (rows : List ℕ) → total < 18446744073709551616 → AllPlaced total head f → 2816 ≤ length rows → NamedIn f rows →
+      Followed t rows head total f
+  followed rows few placed many named =
+      record { small = few; read = w .read; view = read-here; placed = placed; many = many; named = named }
 
   -- 12
   pub primary-off : (p : ℕ) → false ≡ goodPrimary f → p ≡ f .primary → Refused (record { number = 12; place = p }) ≡ toldJudged (judged total head f)
   unfolding rule12 check toldJudged
-  primary-off p e q = rw q (told-off (rule12 f) (placedJudged total head f >> restJudged total head f) _
+  primary-off p e q = rw q (told-off (rule12 f) (fromPlaces total head f) _
       (ap toldJudged (ap (check 12 (f .primary)) (sym e)))) ∙ ap toldJudged (sym (judged-parts total head f))
 
-  module _ (primary : true ≡ goodPrimary f) where
-    judged-on : judged total head f ≡ (placedJudged total head f >> restJudged total head f)
-    unfolding rule12 check _>>_
-    judged-on = judged-parts total head f ∙ ap (λ (m : Answer (Unit {0})). m >>
-        (placedJudged total head f >> restJudged total head f)) (ap (check 12 (f .primary)) (sym primary))
+  pub primary-on : true ≡ goodPrimary f → (j : Judged) (u : List ℕ) → PlacesBy head total f x j u → JudgedBy head total f x j u
+  primary-on primary j u b = record { answer = b .answer ∙ ap toldJudged (sym judged-on); left = λ o. b .left (sym judged-on ∙ o) }
+    where
+      judged-on : judged total head f ≡ fromPlaces total head f
+      judged-on = judged-parts total head f ∙ passed total head f primary
 
-    -- 13 and 14
-    pub placed-off : (y : Refusal) → toldJudged (placedJudged total head f) ≡ Refused y → Refused y ≡ toldJudged (judged total head f)
-    placed-off y e = told-off _ _ y e ∙ ap toldJudged (sym judged-on)
+  -- 13, 30 and 14
+  pub places-refused : (y : Refusal) (u : List ℕ) → toldJudged (placesJudged total head f) ≡ Refused y → PlacesBy head total f x (Refused y) u
+  unfolding toldJudged
+  places-refused y u e =
+      let a : Refused y ≡ toldJudged (fromPlaces total head f) = told-off _ _ y e in
+      record { answer = a; left = λ o. let z : _≡_ {A = ℕ} 0 1 = cc in absurd (omega arith) }
 
-    -- 15 to 20
-    pub placed-on : toldJudged (placedJudged total head f) ≡ Good → (j : Judged) (u : List ℕ) → RestBy head total f x j u → JudgedBy head total f x j u
-    placed-on e j u b =
-        let z = judged-on ∙ told-on _ _ e in
-        record { answer = b .answer ∙ ap toldJudged (sym z); left = λ o. b .left (sym z ∙ o) }
+  -- 15 to 20
+  pub places-kept : toldJudged (placesJudged total head f) ≡ Good → (j : Judged) (u : List ℕ) → RestBy head total f x j u → PlacesBy head total f x j u
+  places-kept e j u b =
+      let z = told-on (placesJudged total head f) (restJudged total head f) e in
+      record { answer = b .answer ∙ ap toldJudged (sym z); left = λ o. b .left (sym z ∙ o) }
 
   -- the table with sizes
-  module _ (few : total < 18446744073709551616) (placed : AllPlaced total head f) (fed : AllFed total head f) where
+  module _ (rows : List ℕ) (k : Followed t rows head total f) (fed : AllFed total head f) where
     filled-targets : (j : ℕ) → j < targetsIn (f .derivations) → getD (fileWords total head f ++ x) (7184 + j) 0 ≡ getD t (7184 + j) 0
     filled-targets j h =
-        ap (λ (u : List ℕ). getD (u ++ x) (7184 + j) 0) (sym (filled-all total head f few (w .read) placed))
+        ap (λ (u : List ℕ). getD (u ++ x) (7184 + j) 0) (sym (filled-all total head f (k .small) (w .read) (k .placed)))
         ∙ filled-target total head f bounds x (length (f .items)) j h
         ∙ sym (filled-target total head f bounds x 0 j h)
         ∙ ap (λ (u : List ℕ). getD (u ++ x) (7184 + j) 0) (filled-none total head f)
         ∙ ap (λ (u : List ℕ). getD u (7184 + j) 0) (sym (w .is))
 
-    pub drawn : (u rows : List ℕ) → u ≡ fileWords total head f ++ x → Resolved t rows f → Drawn u rows head total f
-    drawn u rows e r =
+    pub drawn : (u : List ℕ) → u ≡ fileWords total head f ++ x → Resolved t rows f → Drawn u rows head total f
+    drawn u e r =
         record {
-          view = rw e (placed-view total head f x few (w .read) placed);
+          followed = record {
+            small = k .small;
+            read = w .read;
+            view = rw e (placed-view total head f x (k .small) (w .read) (k .placed));
+            placed = k .placed;
+            many = k .many;
+            named = k .named;
+          };
           sizes = rw e (words-sized total head f bounds x);
           resolved = λ k h. r k h ∙ ap (λ (i : ℕ). rowOf i (f .items)) (sym (rw e (filled-targets k h)));
-          placed = placed;
           fed = fed;
         }
 
@@ -143,8 +161,8 @@ module _ (m k : Answer (Unit {0})) where
       by (refuse n p) e = let z : _≡_ {A = ℕ} 0 1 = cc in absurd (omega arith)
 
 -- the rest: n items, their depths d, the resolved rows; what fill_sizes says, s, and leaves, u; what 17 says, v
-module _ (head t x : List ℕ) (total idat : ℕ) (f : File) (w : Read t head total idat f x) (few : total < 18446744073709551616)
-    (n : ℕ) (rows d u : List ℕ) (s : Filled) (v : Judged) (counted : n ≡ getD t 0 0) (resolved : Resolved t rows f) (placed : AllPlaced total head f)
+module _ (head t x : List ℕ) (total idat : ℕ) (f : File) (w : Read t head total idat f x)
+    (n : ℕ) (rows d u : List ℕ) (s : Filled) (v : Judged) (counted : n ≡ getD t 0 0) (followed : Followed t rows head total f) (resolved : Resolved t rows f)
     (derives : v ≡ toldJudged (inOrder (ruleBy Derived total head f) 0 (f .items)))
     (declares : s ≡ toldFilled (inOrder (λ (r : ℕ) (i : Item). rule15-29-16 f i) 0 (f .items)))
     (deep : (s : Scene) → length s ≡ n → InputsAre t rows s → (r : ℕ) → r < n → getD d r 0 ≡ depth s r)
@@ -184,7 +202,7 @@ module _ (head t x : List ℕ) (total idat : ℕ) (f : File) (w : Read t head to
       pub rest-on : (j : Judged) → ((f : File) → Drawn u rows head total f → j ≡ toldJudged (picturesJudged total head f)) → RestBy head total f x j u
       rest-on j pictures =
           record {
-            answer = pictures f (drawn head t x total idat f w few placed fed u rows sized resolved) ∙
+            answer = pictures f (drawn head t x total idat f w rows followed fed u sized resolved) ∙
                 ap toldJudged (sym (declared-on ∙ told-on _ _ (sym derives ∙ good)));
             left = λ o. sized;
           }

@@ -16,14 +16,13 @@ use Rattle.pictures.specs.Depth.{derivesItself, depth}
 use Rattle.rules.specs.Joined.{noItem, itemAt}
 use Rattle.rules.specs.Places.{placesIn}
 use Rattle.rules.specs.Derivations.{sceneOf}
-use Rattle.rules.specs.Rules.{inOrder, byDepth}
+use Rattle.rules.specs.Rules.{inOrder, byDepth, rule13-30-14}
 use Rattle.rules.proofs.RuleLaws.{in-order-each}
 use Rattle.views.specs.inner.View.{AllPlaced, AllFed, recordWord}
 use Rattle.depths.specs.inner.Inputs.{InputsAre}
 use Rattle.sizing.specs.inner.Drawn.{Drawn}
-use Rattle.judging.specs.inner.Order.{ruleBy, picturesJudged, NoneDeeper, toldJudged}
-use Rattle.judging.specs.declared.Rule.{Rule}
-use Rattle.judging.specs.declared.Rule.the-variants.{Placed, Derived, Itself, Deep}
+use Rattle.judging.specs.inner.Order.{ruleBy, placesJudged, picturesJudged, NoneDeeper, toldJudged}
+use Rattle.judging.specs.declared.Rule.the-variants.{Derived, Itself, Deep}
 use Rattle.judging.specs.declared.Judged.the-variants.{Good, Refused}
 use Rattle.judging.proofs.SceneLaws.{scene-long, inputs-are, shallow-itself, itself-kept, deep-kept, deep-word}
 
@@ -102,9 +101,9 @@ module _ (total : ℕ) (head : List ℕ) (f : File) where
       Good ≡ toldJudged (inOrder (ruleBy Itself total head f) 0 (f .items))
   unfolding toldJudged
   itself-grounded {t} {rows} v n e h =
-      let i = inputs-are total head f t rows (placesIn total head) (v .view) (v .resolved) (v .fed) in
+      let i = inputs-are total head f t rows (placesIn total head) (v .followed .view) (v .resolved) (v .fed) in
       ap toldJudged (sym (itself-all (λ r m. h (sceneOf total head f)
-      (scene-long total head f ∙ sym (e ∙ v .view .items)) i r (omega (arith, e, v .view .items)))))
+      (scene-long total head f ∙ sym (e ∙ v .followed .view .items)) i r (omega (arith, e, v .followed .view .items)))))
 
   -- the depths of the scene by the table's words
   module _ {t rows : List ℕ} (v : Drawn t rows head total f) (w : ℕ) (h : NoneDeeper t w) where
@@ -112,7 +111,7 @@ module _ (total : ℕ) (head : List ℕ) (f : File) where
     none-over r m = omega (
       arith,
       deep-word total head f v r m (recordWord t r 14) refl,
-      h r (omega (arith, v .view .items)) (omega (arith, v .view .bounded .few-items)),
+      h r (omega (arith, v .followed .view .items)) (omega (arith, v .followed .view .bounded .few-items)),
     )
 
     -- where nothing lies over 16 deep, 18 and 19 refuse nothing
@@ -121,15 +120,14 @@ module _ (total : ℕ) (head : List ℕ) (f : File) where
     pictures-shallow l = rw (itself-all (λ r m. shallow-itself total head f r (omega (arith, none-over r m))), deep-all (λ r m. omega (arith, none-over r m)))
 
 -- inOrder: a rule that refuses nothing holds of each item
-module _ (total : ℕ) (head : List ℕ) (f : File) where
-  each : (rule : Rule) → inOrder (ruleBy rule total head f) 0 (f .items) ≡ ok tt → (r : ℕ) → r < length (f .items) →
-      ruleBy rule total head f r (itemAt f r) ≡ ok tt
-  each rule e r h = rw zero-add at (in-order-each (ruleBy rule total head f) 0 (f .items) e r h)
+pub each-kept : (rule : ℕ → Item → Answer (Unit {0})) (f : File) → inOrder rule 0 (f .items) ≡ ok tt → (r : ℕ) → r < length (f .items) →
+    rule r (itemAt f r) ≡ ok tt
+each-kept rule f e r h = rw zero-add at (in-order-each rule 0 (f .items) e r h)
 
-  pub placed-all : inOrder (ruleBy Placed total head f) 0 (f .items) ≡ ok tt → AllPlaced total head f
-  unfolding ruleBy
-  placed-all e r h = each Placed e r h
+module _ (total : ℕ) (head : List ℕ) (f : File) where
+  pub placed-all : placesJudged total head f ≡ ok tt → AllPlaced total head f
+  placed-all e r h = each-kept (λ (r : ℕ) (i : Item). rule13-30-14 total head f i) f e r h
 
   pub fed-all : inOrder (ruleBy Derived total head f) 0 (f .items) ≡ ok tt → AllFed total head f
   unfolding ruleBy
-  fed-all e r h = each Derived e r h
+  fed-all e r h = each-kept (ruleBy Derived total head f) f e r h

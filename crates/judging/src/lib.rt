@@ -1,8 +1,8 @@
-// Judging: refusals 12 to 20 and 29 in the order of document 01, and the sizes into the table.
+// Judging: refusals 12 to 20, 29 and 30 in the order of document 01, and the sizes into the table.
 ghost use mathlib.Core.Path.{_≡_};
 ghost use mathlib.Core.List.{List};
 ghost use mathlib.Core.Bool.{_&&_, not};
-ghost use Prim.Native.Nat.{ℕ, _<_};
+ghost use Prim.Native.Nat.{ℕ, _≤_, _<_};
 ghost use lib.ListN.{length, drop};
 ghost use Rattle.contents.specs.Iinf.{Item};
 ghost use Rattle.contents.specs.File.{File};
@@ -12,11 +12,13 @@ ghost use Rattle.boxes.specs.Types.{image};
 ghost use Rattle.pictures.specs.Scene.{pictureAt, goodSizes};
 ghost use Rattle.rules.specs.Rules.{inOrder, rule18, rule19, byDepth};
 ghost use Rattle.records.specs.inner.Rows.{TargetsRowed};
-ghost use Rattle.views.specs.inner.View.{AllPlaced};
+ghost use Rattle.records.specs.inner.Named.{NamedIn};
 ghost use Rattle.views.specs.inner.Told.{faultOf};
-ghost use Rattle.derived.specs.inner.Told.{Resolved};
+ghost use Rattle.linking.specs.inner.Bytes.{LinksAre};
+ghost use Rattle.derived.specs.inner.Told.{Resolved, Followed, RunsFor};
 ghost use Rattle.sizing.specs.inner.Drawn.{Drawn};
-ghost use Rattle.judging.specs.inner.Order.{ruleBy, picturesJudged, Ready, NoneDeeper, toldJudged, Read, RestBy, JudgedBy};
+ghost use Rattle.judging.specs.inner.Order.{ruleBy, placesJudged, picturesJudged, Early, Ready, NoneDeeper, toldJudged};
+ghost use Rattle.judging.specs.inner.Order.{Read, RestBy, PlacesBy, JudgedBy};
 use boxes::Refusal;
 use placed::Ends;
 use sizing::Filled;
@@ -30,7 +32,7 @@ pub enum Judged {
 
 // A rule that is asked of each item in table order.
 pub enum Rule {
-    // 13 before 14.
+    // 13 before 14; 30 stands for every item that is made of others.
     Placed,
     // 17, 18, 19. 15, 29 and 16 are asked where the sizes are filled in.
     Derived,
@@ -83,15 +85,23 @@ fn is_misfit(head: &[u8], table: &[u32], rows: &[u32], row: ItemRow) -> bool
 }
 
 // The number that a rule refuses the item in a row by, 0 where it does not.
-fn fault_of(head: &[u8], ends: Ends, table: &[u32], rows: &[u32], rule: Rule, row: ItemRow) -> u32
+fn fault_of(
+    head: &[u8],
+    ends: Ends,
+    table: &[u32],
+    rows: &[u32],
+    runs: &[u16; 512],
+    rule: Rule,
+    row: ItemRow,
+) -> u32
     ensures { λ r. ⌜ ((f : File) →
-        Ready rule (now (table .entry)) (now (rows .entry)) (now (head .entry)) (ends .total) (ends .idat) f →
+        Ready rule (now (table .entry)) (now (rows .entry)) (now (runs .entry)) (now (head .entry)) (ends .total) (ends .idat) f →
         row .0 < length (f .items) → r ≡ faultOf
         (ruleBy rule (ends .total) (now (head .entry)) f (row .0) (itemAt f (row .0)))) ⌝ }
 {
     match rule {
         Rule::Placed => placed::place_fault(table, row, ends),
-        Rule::Derived => derived::derived_fault(head, table, rows, row),
+        Rule::Derived => derived::derived_fault(head, table, rows, runs, row),
         Rule::Itself => itself_fault(table, rows, row),
         Rule::Deep => deep_fault(table, row),
     }
@@ -99,9 +109,16 @@ fn fault_of(head: &[u8], ends: Ends, table: &[u32], rows: &[u32], rule: Rule, ro
 
 // The first item in table order that a rule refuses. No table of a file is shorter or has more items: the two tests
 // spare every reader of a record its own.
-fn first_fault(head: &[u8], ends: Ends, table: &[u32], rows: &[u32], rule: Rule) -> Judged
+fn first_fault(
+    head: &[u8],
+    ends: Ends,
+    table: &[u32],
+    rows: &[u32],
+    runs: &[u16; 512],
+    rule: Rule,
+) -> Judged
     ensures { λ r. ⌜ ((f : File) →
-        Ready rule (now (table .entry)) (now (rows .entry)) (now (head .entry)) (ends .total) (ends .idat) f →
+        Ready rule (now (table .entry)) (now (rows .entry)) (now (runs .entry)) (now (head .entry)) (ends .total) (ends .idat) f →
         r ≡ toldJudged (inOrder (ruleBy rule (ends .total) (now (head .entry)) f) 0 (f .items))) ⌝ }
 {
     if table.len() < Table::WORDS {
@@ -114,7 +131,7 @@ fn first_fault(head: &[u8], ends: Ends, table: &[u32], rows: &[u32], rule: Rule)
     let mut k: usize = 0;
     while k < n {
         let row = views::row_at(table, k);
-        let number = fault_of(head, ends, table, rows, rule, row);
+        let number = fault_of(head, ends, table, rows, runs, rule, row);
         if number != 0 {
             return Judged::Refused(Refusal {
                 number,
@@ -180,7 +197,7 @@ fn judge_sizes(head: &[u8], table: &[u32], rows: &[u32]) -> Judged
 }
 
 // 18 for every item. Where all rest on pictures without inputs no item is asked.
-fn judge_itself(head: &[u8], ends: Ends, table: &[u32], rows: &[u32]) -> Judged
+fn judge_itself(head: &[u8], ends: Ends, table: &[u32], rows: &[u32], runs: &[u16; 512]) -> Judged
     ensures { λ r. ⌜ ((f : File) → Drawn (now (table .entry)) (now (rows .entry)) (now (head .entry)) (ends .total) f →
         r ≡ toldJudged (inOrder (ruleBy Rule.Itself (ends .total) (now (head .entry)) f) 0 (f .items))) ⌝ }
 {
@@ -190,11 +207,11 @@ fn judge_itself(head: &[u8], ends: Ends, table: &[u32], rows: &[u32]) -> Judged
             return Judged::Good;
         }
     }
-    first_fault(head, ends, table, rows, Rule::Itself)
+    first_fault(head, ends, table, rows, runs, Rule::Itself)
 }
 
 // 18 to 20, on the table with sizes and depths. Where nothing lies over 16 deep, 18 and 19 refuse nothing.
-fn judge_pictures(head: &[u8], ends: Ends, table: &[u32], rows: &[u32]) -> Judged
+fn judge_pictures(head: &[u8], ends: Ends, table: &[u32], rows: &[u32], runs: &[u16; 512]) -> Judged
     ensures { λ r. ⌜ ((f : File) → Drawn (now (table .entry)) (now (rows .entry)) (now (head .entry)) (ends .total) f →
         r ≡ toldJudged (picturesJudged (ends .total) (now (head .entry)) f)) ⌝ }
 {
@@ -202,11 +219,11 @@ fn judge_pictures(head: &[u8], ends: Ends, table: &[u32], rows: &[u32]) -> Judge
     if deepest <= 16 {
         return judge_sizes(head, table, rows);
     }
-    let i = judge_itself(head, ends, table, rows);
+    let i = judge_itself(head, ends, table, rows, runs);
     match i {
         Judged::Refused(f) => Judged::Refused(f),
         Judged::Good => {
-            let d = first_fault(head, ends, table, rows, Rule::Deep);
+            let d = first_fault(head, ends, table, rows, runs, Rule::Deep);
             match d {
                 Judged::Refused(f) => Judged::Refused(f),
                 Judged::Good => judge_sizes(head, table, rows),
@@ -218,15 +235,23 @@ fn judge_pictures(head: &[u8], ends: Ends, table: &[u32], rows: &[u32]) -> Judge
 // 15 to 20, for a file that keeps 12 to 14. 15, 29 and 16 are judged where sizes and depths are filled in, and depths
 // are right only where 17 is kept: so 17 is asked first, on the table as it was read, and what it says waits. Two calls
 // of `fill_sizes`, so that its loop stays a function of its own (items::read_items).
-fn judge_placed(head: &[u8], ends: Ends, table: &mut [u32], rows: &[u32]) -> Judged
+fn judge_placed(
+    head: &[u8],
+    ends: Ends,
+    table: &mut [u32],
+    rows: &[u32],
+    runs: &[u16; 512],
+) -> Judged
     requires { ⌜ ((f : File) × (x : List ℕ) × Read (now table) (now head) (ends .total) (ends .idat) f x) ⌝ }
     ensures { λ r. ⌜ ((f : File) (x : List ℕ) →
         Read (now (table .entry)) (now (head .entry)) (ends .total) (ends .idat) f x →
-        Resolved (now (table .entry)) (now (rows .entry)) f → AllPlaced (ends .total) (now (head .entry)) f →
+        Followed (now (table .entry)) (now (rows .entry)) (now (head .entry)) (ends .total) f →
+        Resolved (now (table .entry)) (now (rows .entry)) f →
+        RunsFor (now (table .entry)) (now (rows .entry)) (length (now (head .entry))) f (now (runs .entry)) →
         RestBy (now (head .entry)) (ends .total) f x r (now (table .exit))) ⌝ }
     ensures { λ _. ⌜ drop 11280 (now (table .exit)) ≡ drop 11280 (now (table .entry)) ⌝ }
 {
-    let d = first_fault(head, ends, &*table, rows, Rule::Derived);
+    let d = first_fault(head, ends, &*table, rows, runs, Rule::Derived);
     let n = views::item_count(&*table);
     let depths = depths::depths_of(&*table, rows, n);
     match d {
@@ -241,8 +266,59 @@ fn judge_placed(head: &[u8], ends: Ends, table: &mut [u32], rows: &[u32]) -> Jud
             let s = sizing::fill_sizes(head, table, &depths);
             match s {
                 Filled::Refused(f) => Judged::Refused(f),
-                Filled::All => judge_pictures(head, ends, &*table, rows),
+                Filled::All => judge_pictures(head, ends, &*table, rows, runs),
             }
+        }
+    }
+}
+
+// The first item in table order that 13, 30 or 14 refuses, by the levels of all rows.
+fn first_unplaced(ends: Ends, table: &[u32], rows: &[u32], links: &[u8; 256], n: usize) -> Judged
+    requires { ⌜ (n ≤ 256) × (11280 ≤ length (now table)) ⌝ }
+    ensures { λ r. ⌜ ((head : List ℕ) (f : File) → Early (now (table .entry)) head (ends .total) (ends .idat) f →
+        NamedIn f (now (rows .entry)) → LinksAre (now (table .entry)) (now (rows .entry)) n (now (links .entry)) →
+        n ≡ length (f .items) → r ≡ toldJudged (placesJudged (ends .total) head f)) ⌝ }
+{
+    let sums = linking::sums_of(table, n);
+    let mut k: usize = 0;
+    while k < n {
+        let number = placed::linked_fault(table, rows, links, &sums, ItemRow(k), ends);
+        if number != 0 {
+            return Judged::Refused(Refusal {
+                number,
+                place: views::id_of(table, ItemRow(k)).0 as u64,
+            });
+        }
+        k += 1;
+    }
+    Judged::Good
+}
+
+// 13 to 20 of a file in which some item is made of others: all items are asked again, with their levels, and where each item's
+// bytes lie is looked for from the bottom up, for 17.
+fn judge_linked(head: &[u8], ends: Ends, table: &mut [u32], rows: &[u32]) -> Judged
+    requires { ⌜ ((f : File) × (x : List ℕ) × Read (now table) (now head) (ends .total) (ends .idat) f x) ×
+        (2816 ≤ length (now rows)) ⌝ }
+    ensures { λ r. ⌜ ((f : File) (x : List ℕ) →
+        Read (now (table .entry)) (now (head .entry)) (ends .total) (ends .idat) f x →
+        NamedIn f (now (rows .entry)) → Resolved (now (table .entry)) (now (rows .entry)) f →
+        PlacesBy (now (head .entry)) (ends .total) f x r (now (table .exit))) ⌝ }
+    ensures { λ _. ⌜ drop 11280 (now (table .exit)) ≡ drop 11280 (now (table .entry)) ⌝ }
+{
+    if table.len() < Table::WORDS {
+        return Judged::Good;
+    }
+    let n = views::item_count(&*table);
+    if 256 < n {
+        return Judged::Good;
+    }
+    let links = linking::links_of(&*table, rows, n);
+    let p = first_unplaced(ends, &*table, rows, &links, n);
+    match p {
+        Judged::Refused(f) => Judged::Refused(f),
+        Judged::Good => {
+            let runs = joining::runs_of(head.len() as u64, &*table, rows, &links, n);
+            judge_placed(head, ends, table, rows, &runs)
         }
     }
 }
@@ -250,9 +326,9 @@ fn judge_placed(head: &[u8], ends: Ends, table: &mut [u32], rows: &[u32]) -> Jud
 // The table of a file that was read becomes that of the accepted file, or the first fault of 12 to 20 and 29 is given.
 pub fn judge(head: &[u8], ends: Ends, table: &mut [u32], rows: &[u32]) -> Judged
     requires { ⌜ ((f : File) × (x : List ℕ) × Read (now table) (now head) (ends .total) (ends .idat) f x) ×
-        TargetsRowed (now table) (now rows) ⌝ }
+        TargetsRowed (now table) (now rows) × (2816 ≤ length (now rows)) ⌝ }
     ensures { λ r. ⌜ ((f : File) (x : List ℕ) →
-        Read (now (table .entry)) (now (head .entry)) (ends .total) (ends .idat) f x →
+        Read (now (table .entry)) (now (head .entry)) (ends .total) (ends .idat) f x → NamedIn f (now (rows .entry)) →
         JudgedBy (now (head .entry)) (ends .total) f x r (now (table .exit))) ⌝ }
     ensures { λ _. ⌜ drop 11280 (now (table .exit)) ≡ drop 11280 (now (table .entry)) ⌝ }
 {
@@ -262,9 +338,16 @@ pub fn judge(head: &[u8], ends: Ends, table: &mut [u32], rows: &[u32]) -> Judged
             place: table::word(&*table, 5) as u64,
         });
     }
-    let p = first_fault(head, ends, &*table, rows, Rule::Placed);
+    // Where no item is made of others nothing is asked of the runs.
+    let none = [0u16; 512];
+    let p = first_fault(head, ends, &*table, rows, &none, Rule::Placed);
     match p {
-        Judged::Refused(f) => Judged::Refused(f),
-        Judged::Good => judge_placed(head, ends, table, rows),
+        Judged::Good => judge_placed(head, ends, table, rows, &none),
+        Judged::Refused(f) => {
+            if f.number == 30 {
+                return judge_linked(head, ends, table, rows);
+            }
+            Judged::Refused(f)
+        }
     }
 }

@@ -1,3 +1,4 @@
 pub mod LinkLaws
+pub mod LiftLaws
 pub mod ByteLaws
 pub mod ChainExamples

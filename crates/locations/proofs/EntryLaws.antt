@@ -8,7 +8,7 @@ use mathlib.Core.List.{List, [], _∷_, _++_, append-assoc, append-nil}
 use mathlib.Core.Bool.{true, false}
 use mathlib.Core.Logic.{_⊎_, inl, inr}
 use lib.ListN.{length, drop}
-use lib.Dec.{leb}
+use lib.Dec.{leb, eqb}
 use borrow.Author.Tests.{le-leb, lt-leb}
 use Rattle.fields.specs.Field.{beAt}
 use Rattle.fields.specs.Lists.{member}
@@ -59,6 +59,7 @@ use Rattle.locations.specs.inner.Parts.{
   EntryHere,
   EntryAre,
   StoredAre,
+  MarkedAre,
   PutAre,
 }
 
@@ -250,11 +251,12 @@ entry-lead : {B : Type 0} (ids : List ℕ) (w : Widths) (ls : List Location) (p 
 unfolding entry-by lead-form new-form rest-form
 entry-lead ids w ls p r k = simp (reads-bind, reads-give)
 
--- StoredAre, PutAre: an entry that was read up to its extents, once they and its place were put
-module _ (t u : List ℕ) (n : ℕ) (w : Widths) (used p : ℕ) (s : List ℕ) (at idat : ℕ) where
-  pub put-gone : (f : Refusal) → u ≡ t → EntryAre t n w used p s at (entry.Refused f) → PutAre t u n w used p s at idat (put.Refused f)
-  put-gone f e h = (
+-- StoredAre, MarkedAre, PutAre: an entry that was read up to its extents, once they, its place and its marks were put
+module _ (t u v y : List ℕ) (n : ℕ) (w : Widths) (used p : ℕ) (s : List ℕ) (at idat : ℕ) where
+  pub put-gone : (f : Refusal) → u ≡ t → y ≡ v → EntryAre t n w used p s at (entry.Refused f) → PutAre t u v y n w used p s at idat (put.Refused f)
+  put-gone f e q h = (
     e,
+    q,
     λ ls l. rw read-reads (entry-lead (idsIn t n) w ls p (drop at s) _ ∙
         reads-refused (lead-form (idsIn t n) w ls) p (drop at s) _ (f .number) (f .place) (h ls l)),
   )
@@ -272,10 +274,11 @@ module _ (t u : List ℕ) (n : ℕ) (w : Widths) (used p : ℕ) (s : List ℕ) (
         }) q)
     lead-extents ls l = rw read-reads (entry-lead (idsIn t n) w ls p (drop at s) _ ∙ reads-got (lead-form (idsIn t n) w ls) p (drop at s) _ _ _ (h .read ls l))
 
-    pub put-are : (o : EntryPut) → StoredAre w s from p t u r x used idat o → PutAre t u n w used p s at idat o
-    put-are (put.Refused f) z =
-        (z .0, λ ls l. rw (z .1, z .2) (lead-extents ls l ∙ extents-cut (w .index) (w .offset) (w .length) p s _ (x .extents) from [] (h .room) (z .3)))
-    put-are (put.Is end k q) z =
+    pub put-are : (o : EntryPut) → StoredAre w s from p t u r x used idat o → MarkedAre used (eqb (x .method) 2) (extentsBy w s from (x .extents)) v y o →
+        PutAre t u v y n w used p s at idat o
+    put-are (put.Refused f) z m =
+        (z .0, m, λ ls l. rw (z .1, z .2) (lead-extents ls l ∙ extents-cut (w .index) (w .offset) (w .length) p s _ (x .extents) from [] (h .room) (z .3)))
+    put-are (put.Is end k q) z m =
         let few = h .few in
         let below = h .below in
         let e = z .count in
@@ -287,6 +290,7 @@ module _ (t u : List ℕ) (n : ℕ) (w : Widths) (used p : ℕ) (s : List ℕ) (
           id = ap (idAt t) (z .row);
           count = extents-count (w .index) (w .offset) (w .length) s from (x .extents) ∙ sym e;
           stored = rw (z .row, e) (z .stored);
+          marked = m;
           new = λ ls l. h .new ls l;
           read = λ ls l. lead-extents ls l ∙ extents-are (w .index) (w .offset) (w .length) p s _ (x .extents) from []
               (rw (z .ends) at (z .room)) ∙ rw (z .ends);

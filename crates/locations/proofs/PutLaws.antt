@@ -15,6 +15,7 @@ use Rattle.fields.specs.Choice.{pick}
 use Rattle.fields.specs.Field.{beAt}
 use Rattle.fields.proofs.FieldLaws.{pick-yes, pick-no}
 use Rattle.contents.specs.Iloc.{Extent, Location}
+use Rattle.rules.specs.Joined.{noExtent}
 use Rattle.rules.specs.Places.{Places, fileOffset}
 use Rattle.rules.specs.Words.{joinAll, highLow}
 use Rattle.records.specs.inner.Raw.{capped, extentRow}
@@ -59,10 +60,6 @@ start-file m b i e h = let z : 0 + b ≡ b = omega arith in sym (ap (λ (y : ℕ
 pub row-length : (start : ℕ) (e : Extent) → length (rowFrom start e) ≡ 4
 unfolding rowFrom
 row-length start e = refl
-
--- no extent, for a list's default
-abbrev noExtent : Extent
-noExtent = record { index = 0; offset = 0; size = 0 }
 
 -- a start that was capped first gives the same words
 pub rows-capped : (start : ℕ) (es : List Extent) → joinAll (rowFrom (capped start)) es ≡ joinAll (rowFrom start) es

@@ -1,6 +1,6 @@
 // `iloc`: where the bytes of the items lie, into extents and records.
 ghost use mathlib.Core.Path.{_≡_};
-ghost use mathlib.Core.List.{[], _++_};
+ghost use mathlib.Core.List.{List, [], _++_, map};
 ghost use mathlib.Core.Bool.{_&&_};
 ghost use mathlib.Core.Logic.{_⊎_};
 ghost use Prim.Native.Nat.{_+_, _*_, _%_, _≤_, _<_};
@@ -9,11 +9,14 @@ ghost use lib.Seq.{sets};
 ghost use lib.Dec.{eqb};
 ghost use Rattle.fields.specs.Choice.{pick};
 ghost use Rattle.fields.specs.Field.{beAt};
+ghost use Rattle.boxes.specs.Answer.{ok};
 ghost use Rattle.forms.specs.Form.{many, whole};
-ghost use Rattle.contents.specs.Iloc.{fieldSize, iloc-form};
+ghost use Rattle.contents.specs.Iinf.{Item};
+ghost use Rattle.contents.specs.Iloc.{Extent, Location, fieldSize, indexOf, iloc-form};
 ghost use Rattle.rules.specs.Words.{joinAll, highLow};
 ghost use Rattle.records.specs.inner.Raw.{capped};
 ghost use Rattle.records.specs.inner.Rows.{idsIn};
+ghost use Rattle.records.specs.inner.Named.{markOf, NamedRows};
 ghost use Rattle.locations.specs.inner.Told.{toldLocations, Unplaced, LocationsLeft};
 ghost use Rattle.locations.specs.inner.Parts.{
   widthsBy,
@@ -31,6 +34,7 @@ ghost use Rattle.locations.specs.inner.Parts.{
   RestAre,
   EntryAre,
   StoredAre,
+  MarkedAre,
   PutAre,
   EntriesLeft,
 };
@@ -362,19 +366,56 @@ pub enum EntryPut {
     Refused(Refusal),
 }
 
-// The extents of an entry, and its place.
+// What stands for the index of an extent until the reference that it picks from is read: 257 more, and the same for all
+// that no reference has targets enough for. A field of no bytes means the first target.
+fn index_mark(s: &[u8], at: usize, w: usize) -> u32
+    requires { ⌜ ((w ≡ 0) ⊎ ((w ≡ 4) ⊎ (w ≡ 8))) × (at + w ≤ length (now s)) ⌝ }
+    ensures { λ r. ⌜ r ≡ markOf (indexOf w (beAt (now (s .entry)) at w)) ⌝ }
+{
+    if w == 0 {
+        return 258;
+    }
+    let index = fields::be_sized(s, at, w);
+    if 65535 < index {
+        return 65793;
+    }
+    (index as u32) + 257
+}
+
+// The marks of k extents from a place on, all of them there, as those of the extents from a number on.
+fn put_indices(s: &[u8], at: usize, w: Widths, k: usize, rows: &mut [u32], used: usize)
+    requires { ⌜ (at + k * each w ≤ length (now s)) × GoodWidths w × (used + k ≤ 512) × (2816 ≤ length (now rows)) ⌝ }
+    ensures { λ _. ⌜ now (rows .exit) ≡ sets (now (rows .entry)) (2304 + used) (map (λ (e : Extent). markOf (e .index))
+        (extentsBy w (now (s .entry)) at k)) ⌝ }
+{
+    let i = w.index;
+    let o = w.offset;
+    let l = w.length;
+    let mut a = at;
+    let mut j: usize = 0;
+    while j < k {
+        rows[2304 + used + j] = index_mark(s, a, i);
+        a = a + i + o + l;
+        j += 1;
+    }
+}
+
+// The extents of an entry and its place; of method 2 also the marks of its indices.
 fn put_rest(
     s: &[u8],
     at: usize,
     w: Widths,
     place: u64,
     table: &mut [u32],
+    rows: &mut [u32],
     row: ItemRow,
     x: Rest,
     used: usize,
     idat: u64,
 ) -> EntryPut
-    requires { ⌜ (at ≤ length (now s)) × GoodWidths w × (used + x .extents ≤ 512) × (row .0 < 256) × (11280 ≤ length (now table)) ⌝ }
+    requires { ⌜ (at ≤ length (now s)) × GoodWidths w × (used + x .extents ≤ 512) × (row .0 < 256) × (11280 ≤ length (now table)) ×
+        (2816 ≤ length (now rows)) ⌝ }
+    ensures { λ r. ⌜ MarkedAre used (eqb (x .method) 2) (extentsBy w (now (s .entry)) at (x .extents)) (now (rows .entry)) (now (rows .exit)) r ⌝ }
     ensures { λ r. ⌜ StoredAre w (now (s .entry)) at place (now (table .entry)) (now (table .exit)) (row .0) x used idat r ⌝ }
 {
     let i = w.index;
@@ -386,6 +427,9 @@ fn put_rest(
         return EntryPut::Refused(Refusal { number: 8, place });
     }
     let start = start_of(x.method, x.base, idat);
+    if x.method == 2 {
+        put_indices(s, at, w, k, rows, used);
+    }
     put_extents(s, at, w, k, start, table, used);
     put_place(table, row, x, used);
     EntryPut::Is {
@@ -395,21 +439,24 @@ fn put_rest(
     }
 }
 
-// One entry, into the table.
+// One entry, into the table and the rows.
 fn put_entry(
     s: &[u8],
     at: usize,
     w: Widths,
     place: u64,
     table: &mut [u32],
+    rows: &mut [u32],
     n: usize,
     hope: ItemRow,
     keys: &[u64; 512],
     used: usize,
     idat: u64,
 ) -> EntryPut
-    requires { ⌜ (at ≤ length (now s)) × GoodWidths w × (used ≤ 512) × (n ≤ 256) × (11280 ≤ length (now table)) ⌝ }
-    ensures { λ r. ⌜ PutAre (now (table .entry)) (now (table .exit)) n w used place (now (s .entry)) at idat r ⌝ }
+    requires { ⌜ (at ≤ length (now s)) × GoodWidths w × (used ≤ 512) × (n ≤ 256) × (11280 ≤ length (now table)) ×
+        (2816 ≤ length (now rows)) ⌝ }
+    ensures { λ r. ⌜ PutAre (now (table .entry)) (now (table .exit)) (now (rows .entry)) (now (rows .exit)) n w used place
+        (now (s .entry)) at idat r ⌝ }
 {
     let r = read_entry(s, at, w, place, &*table, n, hope, keys, used);
     match r {
@@ -418,7 +465,7 @@ fn put_entry(
             row,
             rest,
             at: from,
-        } => put_rest(s, from, w, place, table, row, rest, used, idat),
+        } => put_rest(s, from, w, place, table, rows, row, rest, used, idat),
     }
 }
 
@@ -434,11 +481,16 @@ fn put_entries(
     w: Widths,
     place: u64,
     table: &mut [u32],
+    rows: &mut [u32],
     n: usize,
     keys: &[u64; 512],
     idat: u64,
 ) -> LocationsRead
-    requires { ⌜ (from ≤ length (now s)) × GoodWidths w × (n ≤ 256) × (11280 ≤ length (now table)) × Unplaced (now table) n ⌝ }
+    requires { ⌜ (from ≤ length (now s)) × GoodWidths w × (n ≤ 256) × (11280 ≤ length (now table)) × (2816 ≤ length (now rows)) ×
+        Unplaced (now table) n ⌝ }
+    ensures { λ _. ⌜ length (now (rows .exit)) ≡ length (now (rows .entry)) ⌝ }
+    ensures { λ _. ⌜ ((is : List Item) (ls : List Location) → whole (many (entry-by (idsIn (now (table .entry)) n) w) count []) place
+        (drop from (now (s .entry))) ≡ ok ls → NamedRows is ls [] (now (rows .exit))) ⌝ }
     ensures { λ r. ⌜ r ≡ toldLocations (whole (many (entry-by (idsIn (now (table .entry)) n) w) count []) place (drop from (now (s .entry)))) ⌝ }
     ensures { λ _. ⌜ EntriesLeft (whole (many (entry-by (idsIn (now (table .entry)) n) w) count []) place
         (drop from (now (s .entry)))) n idat (now (table .entry)) (now (table .exit)) ⌝ }
@@ -448,7 +500,19 @@ fn put_entries(
     let mut hope: usize = 0;
     let mut i: usize = 0;
     while i < count {
-        let t = put_entry(s, at, w, place, table, n, ItemRow(hope), keys, used, idat);
+        let t = put_entry(
+            s,
+            at,
+            w,
+            place,
+            table,
+            rows,
+            n,
+            ItemRow(hope),
+            keys,
+            used,
+            idat,
+        );
         match t {
             EntryPut::Refused(r) => {
                 return LocationsRead::Refused(r);
@@ -469,15 +533,20 @@ fn put_entries(
 }
 
 // The entries of the `iloc` at a place into a table with n items, none of which has an entry yet; the content of `idat` begins at `idat`.
+// From 2,304 on, `rows` has a word for each extent: of method 2 the mark of its index, of others what was there.
 pub fn read_locations(
     s: &[u8],
     place: u64,
     table: &mut [u32],
+    rows: &mut [u32],
     n: usize,
     keys: &[u64; 512],
     idat: u64,
 ) -> LocationsRead
-    requires { ⌜ (11280 ≤ length (now table)) × (n ≤ 256) × Unplaced (now table) n ⌝ }
+    requires { ⌜ (11280 ≤ length (now table)) × (2816 ≤ length (now rows)) × (n ≤ 256) × Unplaced (now table) n ⌝ }
+    ensures { λ _. ⌜ length (now (rows .exit)) ≡ length (now (rows .entry)) ⌝ }
+    ensures { λ _. ⌜ ((is : List Item) (ls : List Location) → whole (iloc-form (idsIn (now (table .entry)) n)) place (now (s .entry)) ≡ ok ls →
+        NamedRows is ls [] (now (rows .exit))) ⌝ }
     ensures { λ r. ⌜ r ≡ toldLocations (whole (iloc-form (idsIn (now (table .entry)) n)) place (now (s .entry))) ⌝ }
     ensures { λ _. ⌜ LocationsLeft (now (s .entry)) place n idat (now (table .entry)) (now (table .exit)) ⌝ }
 {
@@ -491,9 +560,9 @@ pub fn read_locations(
                 Sizes::Is { widths, count } => {
                     // Behind the count, which is as wide as an ID. Two calls, so that the loop stays a function of its own (items::read_items).
                     if widths.id == 2 {
-                        return put_entries(s, 8, count, widths, place, table, n, keys, idat);
+                        return put_entries(s, 8, count, widths, place, table, rows, n, keys, idat);
                     }
-                    put_entries(s, 10, count, widths, place, table, n, keys, idat)
+                    put_entries(s, 10, count, widths, place, table, rows, n, keys, idat)
                 }
             }
         }

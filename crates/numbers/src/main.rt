@@ -36,7 +36,7 @@ fn print_row(number: u32) {
 
 fn main() {
     say(1, b"| No. | in words | place |\n|---|---|---|\n");
-    for number in 1..30 {
+    for number in 1..32 {
         print_row(number);
     }
 }

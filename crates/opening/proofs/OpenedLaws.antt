@@ -28,7 +28,8 @@ use Rattle.judging.specs.inner.Order.{toldJudged, Read}
 use Rattle.judging.specs.declared.Judged.the-variants as judge
 use Rattle.records.proofs.BoundLaws.{read-bounds}
 use Rattle.rules.proofs.RuleLaws.{judged-each}
-use Rattle.derived.specs.inner.Told.{Resolved}
+use Rattle.records.specs.inner.Named.{NamedIn}
+use Rattle.derived.specs.inner.Told.{Resolved, Followed}
 use Rattle.judging.proofs.JudgeLaws.{rowed-resolved, read-here, drawn}
 use Rattle.arranged.specs.inner.Order.{InOrder}
 use Rattle.opening.proofs.OrderLaws.{ordered-places}
@@ -156,13 +157,15 @@ module _ (total : ℕ) (head t : List ℕ) where
 -- of an accepted file the rows that were read beside the targets are still those of the items that they name: judging leaves the targets as
 -- they were; and the others are the places in rising ID order
 pub judged-rowed : (total : ℕ) (head : List ℕ) → total < 18446744073709551616 →
-    (e : ℕ) (f : File) (u v x rows : List ℕ) → Read u head total e f x → Rowed u rows →
+    (e : ℕ) (f : File) (u v x rows : List ℕ) → Read u head total e f x → Rowed u rows → 2816 ≤ length rows → NamedIn f rows →
     judge.Good ≡ toldJudged (judged total head f) → (judged total head f ≡ ok tt → v ≡ fileWords total head f ++ x)
-    → (g : File) → readFile total head ≡ ok g → Resolved v rows g × InOrder rows g
-judged-rowed total head few e f u v x rows w r j l g q =
+    → (g : File) → readFile total head ≡ ok g → (Resolved v rows g × NamedIn g rows) × InOrder rows g
+judged-rowed total head few e f u v x rows w r many named j l g q =
     let k = judged-good (judged total head f) j in
     let y = judged-each total head f k in
     let v₀ = read-here head u x total e f w in
-    let d = drawn head u x total e f w few (y .by-13-14) (y .by-17) v rows (l k) (rowed-resolved u rows head _ f v₀ (r .0)) in
-    subst (λ (h : File). Resolved v rows h × InOrder rows h) (ok-inj _ _ (sym (w .read) ∙ q))
-    (d .resolved, ordered-places rows v₀ (r .1))
+    let follows : Followed u rows head total f =
+    record { small = few; read = w .read; view = v₀; placed = y .by-13-30-14; many = many; named = named } in
+    let d = drawn head u x total e f w rows follows (y .by-17) v (l k) (rowed-resolved u rows head _ f v₀ (r .0)) in
+    subst (λ (h : File). (Resolved v rows h × NamedIn h rows) × InOrder rows h) (ok-inj _ _ (sym (w .read) ∙ q))
+    ((d .resolved, named), ordered-places rows v₀ (r .1))

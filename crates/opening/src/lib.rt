@@ -4,6 +4,7 @@ ghost use Prim.Native.Nat.{_≤_};
 ghost use lib.ListN.{length};
 ghost use Rattle.boxes.specs.Answer.{ok};
 ghost use Rattle.contents.specs.File.{File, readFile};
+ghost use Rattle.records.specs.inner.Named.{NamedIn};
 ghost use Rattle.arranged.specs.inner.Order.{InOrder};
 ghost use Rattle.derived.specs.inner.Told.{Resolved};
 ghost use Rattle.opening.specs.declared.Opened.the-variants.{Accepted};
@@ -19,12 +20,13 @@ pub enum Opened {
 }
 
 // Reading and judging: 1 to 20. The records are in the order of `iinf`. Where the file is accepted, `rows` has for each
-// target the row that it names, and from 2,048 on the rows in rising ID order; elsewhere nothing is said of it.
+// target the row that it names, from 2,048 on the rows in rising ID order, and from 2,304 on for each extent of a method 2 item
+// the row that it names; elsewhere nothing is said of it.
 pub fn open_rows(head: &[u8], total: u64, table: &mut [u32], rows: &mut [u32]) -> Opened
-    requires { ⌜ 2304 ≤ length (now rows) ⌝ }
+    requires { ⌜ 2816 ≤ length (now rows) ⌝ }
     ensures { λ r. ⌜ OpenedGiven (now (head .entry)) total (now (table .entry)) r (now (table .exit)) ⌝ }
     ensures { λ r. ⌜ ((f : File) → r ≡ Accepted → readFile total (now (head .entry)) ≡ ok f →
-        Resolved (now (table .exit)) (now (rows .exit)) f × InOrder (now (rows .exit)) f) ⌝ }
+        (Resolved (now (table .exit)) (now (rows .exit)) f × NamedIn f (now (rows .exit))) × InOrder (now (rows .exit)) f) ⌝ }
 {
     let r = reading::read_file(head, total, table, rows);
     match r {

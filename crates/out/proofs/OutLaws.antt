@@ -13,12 +13,14 @@ use Rattle.asked.specs.Told.{toldVerdict, toldSized}
 use Rattle.traced.specs.Told.{toldFound, toldTraced, endNumber}
 use Rattle.seam.specs.Points.{toldPointsFilled}
 use Rattle.sourced.specs.Told.{toldListed}
+use Rattle.bodied.specs.Told.{toldBodied}
 use Rattle.asked.specs.declared.FileVerdict.the-variants as verdicts
 use Rattle.asked.specs.declared.Sized.the-variants as sizes
 use Rattle.traced.specs.declared.Traced.the-variants as traces
 use Rattle.seam.specs.declared.PointsFilled.the-variants as filled
 use Rattle.sourced.specs.declared.Listed.the-variants as lists
-use Rattle.out.specs.Out.{outRefused, outVerdict, outSized, outTraced, outPoints, outListed}
+use Rattle.bodied.specs.declared.Bodied.the-variants as bodies
+use Rattle.out.specs.Out.{outRefused, outVerdict, outSized, outTraced, outPoints, outListed, outBodied}
 
 -- outVerdict
 pub verdict-refused : (m : Answer Q.Verdict) (y : Refusal) → verdicts.Refused y ≡ toldVerdict m → outRefused (y .number) (y .place) ≡ outVerdict m
@@ -95,3 +97,14 @@ pub list-told : (m : Answer (List ℕ)) (count : ℕ) → lists.Is count ≡ tol
 unfolding toldListed outListed
 list-told (ok ids) count e = let i : count ≡ length ids = cc in rw i
 list-told (refuse n p) count e = let z : _≡_ {A = ℕ} 0 1 = cc in absurd (omega arith)
+
+-- outBodied
+pub body-refused : (m : Answer (List ℕ)) (y : Refusal) → bodies.Refused y ≡ toldBodied m → outRefused (y .number) (y .place) ≡ outBodied m
+unfolding toldBodied outBodied
+body-refused (ok b) y e = let z : _≡_ {A = ℕ} 0 1 = cc in absurd (omega arith)
+body-refused (refuse n p) y e = let i : y .number ≡ n = cc in let j : y .place ≡ p = cc in rw (i, j)
+
+pub body-told : (m : Answer (List ℕ)) (count : ℕ) → bodies.Is count ≡ toldBodied m → (0 ∷ 0 ∷ count ∷ 0 ∷ 0 ∷ 0 ∷ 0 ∷ 0 ∷ []) ≡ outBodied m
+unfolding toldBodied outBodied
+body-told (ok b) count e = let i : count ≡ length b = cc in rw i
+body-told (refuse n p) count e = let z : _≡_ {A = ℕ} 0 1 = cc in absurd (omega arith)

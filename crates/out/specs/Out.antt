@@ -1,7 +1,7 @@
 -- The answers as C is given them, eight numbers each: "A refusal returns number and place; other numbers are 0", then
 -- the answer's values in document 01's order.
 --   outRefused           number and place of a refusal
---   outVerdict, outSized, outTraced, outPoints, outListed, outPart, outOrientation, outTransforms     the eight numbers for an answer
+--   outVerdict, outSized, outTraced, outPoints, outListed, outPart, outOrientation, outTransforms, outBodied     the eight numbers for an answer
 use Prim.Native.Nat.{ℕ}
 use mathlib.Core.List.{List, [], _∷_}
 use mathlib.Core.Bool.{Bool, true, false}
@@ -49,6 +49,11 @@ outPart (refuse n p) = outRefused n p
 unfoldable pub outOrientation : Answer ℕ → List ℕ
 outOrientation (ok n) = 0 ∷ 0 ∷ n ∷ 0 ∷ 0 ∷ 0 ∷ 0 ∷ 0 ∷ []
 outOrientation (refuse n p) = outRefused n p
+
+-- Q-7: how long the body is
+unfoldable pub outBodied : Answer (List ℕ) → List ℕ
+outBodied (ok b) = 0 ∷ 0 ∷ length b ∷ 0 ∷ 0 ∷ 0 ∷ 0 ∷ 0 ∷ []
+outBodied (refuse n p) = outRefused n p
 
 -- 1 stands for an `irot`, 2 for an `imir`
 unfoldable pub kindNumber : Transform → ℕ

@@ -14,6 +14,7 @@ ghost use Rattle.asked.specs.Told.{toldVerdict, toldSized};
 ghost use Rattle.traced.specs.Told.{toldTraced};
 ghost use Rattle.seam.specs.Points.{toldPointsFilled};
 ghost use Rattle.sourced.specs.Told.{toldListed};
+ghost use Rattle.bodied.specs.Told.{toldBodied};
 ghost use Rattle.facing.specs.Orientation as Orientation;
 ghost use Rattle.facing.specs.Told.{toldOriented, toldTransform, toldTransforms};
 ghost use Rattle.out.specs.Out.{
@@ -28,9 +29,11 @@ ghost use Rattle.out.specs.Out.{
   kindNumber,
   valueIn,
   outTransforms,
+  outBodied,
 };
 use asked::FileVerdict;
 use asked::Sized;
+use bodied::Bodied;
 use boxes::Refusal;
 use facing::Oriented;
 use facing::Transform;
@@ -188,5 +191,15 @@ pub fn transforms_numbers(l: TransformList) -> [u64; 8]
                 0,
             ]
         }
+    }
+}
+
+// The length of the body.
+pub fn bodied_numbers(b: Bodied) -> [u64; 8]
+    ensures { λ r. ⌜ ((a : Answer (List ℕ)) → b ≡ toldBodied a → r ≡ outBodied a) ⌝ }
+{
+    match b {
+        Bodied::Refused(f) => refused_numbers(f),
+        Bodied::Is(n) => [0, 0, n as u64, 0, 0, 0, 0, 0],
     }
 }

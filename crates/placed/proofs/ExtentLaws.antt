@@ -8,18 +8,16 @@ use mathlib.Core.List.{List, [], _∷_}
 use mathlib.Core.Bool.{Bool, true, false, _&&_, not}
 use lib.ListN.{length, getD, drop, drop-of-length-le}
 use lib.Dec.{leb, eqb}
-use mir.Val.{Fits}
-use mir.Syntax.{w64}
 use borrow.Author.Tests.{leb-false, le-leb, lt-leb, eq-eqb, ne-eqb}
 use Rattle.fields.proofs.FieldLaws.{both}
 use Rattle.fields.proofs.TestLaws.{both-and, and-none}
 use Rattle.contents.specs.Iloc.{Extent, Location}
 use Rattle.contents.specs.File.{File}
 use Rattle.rules.specs.Bytes.{allExtents}
-use Rattle.rules.specs.Joined.{locationOf}
+use Rattle.rules.specs.Joined.{noExtent, locationOf}
 use Rattle.rules.specs.Places.{Places, fileOffset}
 use Rattle.records.specs.inner.Raw.{capped}
-use Rattle.views.specs.inner.View.{TableOf, recordWord, idOf, noExtent}
+use Rattle.views.specs.inner.View.{TableOf, recordWord, idOf}
 use Rattle.views.proofs.TableLaws.{row-small}
 
 -- allExtents: the test of all is that of those from j on, if those before j pass
@@ -70,7 +68,7 @@ abbrev pub endsBy : ℕ → Places → Location → Extent → Bool
 endsBy end pl l e = not (eqb (e .size) 0) && leb (fileOffset pl l e + e .size) end
 
 -- capped: an extent of n bytes from x on, as the table has it, against an end
-module _ (end x n o m : ℕ) (few : Fits w64 end) (place : o ≡ capped x) (long : m ≡ n) where
+module _ (end x n o m : ℕ) (few : end < 18446744073709551616) (place : o ≡ capped x) (long : m ≡ n) where
   pub ends-empty : m ≡ 0 → (not (eqb n 0) && leb (x + n) end) ≡ false
   ends-empty z = rw (no-length m n long z) refl
 

@@ -1,3 +1,4 @@
 pub mod PrimaryLaws
 pub mod ExtentLaws
 pub mod PlaceLaws
+pub mod SourceLaws

@@ -6,26 +6,32 @@ use mathlib.Core.List.{List}
 use mathlib.Core.Bool.{Bool, true, false, _&&_, not}
 use lib.ListN.{length}
 use lib.Dec.{leb, eqb}
-use borrow.Author.Tests.{leb-true, leb-false, eqb-true, eqb-false, le-leb, lt-leb}
+use borrow.Author.Tests.{leb-true, leb-false, eqb-true, eqb-false, eq-eqb, ne-eqb, le-leb, lt-leb}
 use Rattle.fields.specs.Choice.{pick}
+use Rattle.fields.proofs.FieldLaws.{pick-yes, pick-no}
 use Rattle.fields.proofs.TestLaws.{and-both, and-false, and-true}
 use Rattle.boxes.specs.Answer.{_>>_, check}
 use Rattle.boxes.specs.Types.{coded}
 use Rattle.contents.specs.Iloc.{Extent, Location}
 use Rattle.contents.specs.Iinf.{Item}
 use Rattle.contents.specs.File.{File}
-use Rattle.rules.specs.Bytes.{Store, storeOf, allExtents, goodMethod, goodLengths, within}
+use Rattle.rules.specs.Bytes.{allExtents, goodMethod, goodLengths, madeOfItems, chained, namesPast}
+use Rattle.rules.specs.Bytes as file
+use Rattle.rules.specs.inner.Direct.{Store, storeOf, within}
 use Rattle.rules.specs.Joined.{locationOf, itemAt}
 use Rattle.rules.specs.Places.{Places, fileOffset}
-use Rattle.rules.specs.Rules.{hasBytes, rule13-14}
+use Rattle.rules.specs.Rules.{hasBytes, rule13-30-14}
 use Rattle.views.specs.inner.View.{TableOf, Judging, recordWord, idOf}
 use Rattle.views.specs.inner.Told.{faultOf}
 use Rattle.views.proofs.TableLaws.{row-small}
 use Rattle.rules.proofs.DerivationLaws.{nothing-in, nothing-none}
+use Rattle.rules.proofs.ChainLaws.{chained-other}
+use Rattle.rules.proofs.ByteLaws.{within-other}
+use Rattle.placed.specs.inner.Plain.{plainMethod, plainRule}
 use Rattle.placed.proofs.ExtentLaws.{extents-count}
 
 -- leb
-same-leb : (a b c d : ℕ) → (a ≤ b → c ≤ d) → (c ≤ d → a ≤ b) → leb a b ≡ leb c d
+pub same-leb : (a b c d : ℕ) → (a ≤ b → c ≤ d) → (c ≤ d → a ≤ b) → leb a b ≡ leb c d
 same-leb a b c d there back = by (leb a b) (leb c d) refl refl
   where
     by : (t u : Bool) → leb a b ≡ t → leb c d ≡ u → leb a b ≡ leb c d
@@ -59,7 +65,13 @@ module _ {t head : List ℕ} {pl : Places} {f : File} (v : TableOf t head pl f) 
     method-read : m ≡ locationOf f (idOf f r) .method
     method-read = e (row-small v r h) ∙ v .method r h
 
-    pub method-unknown : 1 < m → false ≡ goodMethod (locationOf f (idOf f r))
+    pub method-made : m ≡ 2 → madeOfItems f (idOf f r) ≡ true
+    method-made q = eq-eqb _ 2 (sym method-read ∙ q)
+
+    pub method-other : (m ≡ 2 → ⊥) → madeOfItems f (idOf f r) ≡ false
+    method-other q = ne-eqb _ 2 (λ z. q (method-read ∙ z))
+
+    pub method-unknown : 1 < m → false ≡ plainMethod (locationOf f (idOf f r))
     method-unknown l = rw (← method-read, lt-leb m 1 l) refl
 
     module _ (total : ℕ) where
@@ -75,7 +87,7 @@ module _ {t head : List ℕ} {pl : Places} {f : File} (v : TableOf t head pl f) 
           (locationOf f (idOf f r) .extents)
       within-file q = within-before total head f pl (locationOf f (idOf f r)) total (λ x. absurd (q (method-read ∙ x))) (λ x. refl)
 
-    pub reference-here : Judging t f → m ≤ 1 → (d : ℕ) → (r < 256 → d ≡ recordWord t r 10) → eqb d 0 ≡ goodMethod (locationOf f (idOf f r))
+    pub reference-here : Judging t f → m ≤ 1 → (d : ℕ) → (r < 256 → d ≡ recordWord t r 10) → eqb d 0 ≡ plainMethod (locationOf f (idOf f r))
     reference-here w few d q = rw (← method-read, ← w .reference r h, ← q (row-small v r h), le-leb m 1 few) refl
 
   -- hasBytes
@@ -89,34 +101,86 @@ module _ {t head : List ℕ} {pl : Places} {f : File} (v : TableOf t head pl f) 
     bytes-some z = sym (ap not (and-false (coded (itemAt f r .type)) _
         (λ a b. z (extents-count v r n h e ∙ ap length (nothing-in (locationOf f (idOf f r) .extents) b)))))
 
--- rule13-14: by answers, each needed only where those before it are yes; the lengths apart only where an extent is wrong
-module _ (total : ℕ) (head : List ℕ) (f : File) (i : Item) (good : Bool) (e : good ≡ goodMethod (locationOf f (i .id))) where
-  pub fault-method : good ≡ false → 13 ≡ faultOf (rule13-14 total head f i)
-  unfolding rule13-14 faultOf check _>>_
-  fault-method n = rw (← e, n) refl
+-- plainRule
+module _ (total : ℕ) (head : List ℕ) (f : File) (i : Item) where
+  abbrev methodAndLengths : Bool
+  methodAndLengths = plainMethod (locationOf f (i .id)) && goodLengths (locationOf f (i .id))
+
+  abbrev withinAndBytes : Bool
+  withinAndBytes = within (storeOf total head f (locationOf f (i .id) .method)) (locationOf f (i .id)) && hasBytes f i
+
+  plain-other : madeOfItems f (i .id) ≡ false → plainRule total head f i ≡ (check 13 (i .id) methodAndLengths >> check 14 (i .id) withinAndBytes)
+  unfolding plainRule
+  plain-other m = pick-no _ _ m
+
+  -- an item of another method: what the rule itself says
+  module _ (m : madeOfItems f (i .id) ≡ false) where
+    between : (a c d : Bool) → c ≡ true → (check 13 (i .id) a >> check 14 (i .id) d) ≡ (check 13 (i .id) a >> check 30 (i .id) c >> check 14 (i .id) d)
+    unfolding check _>>_
+    between true c d e = rw e
+    between false c d e = refl
+
+    same-method : methodAndLengths ≡ (goodMethod (locationOf f (i .id)) && goodLengths (locationOf f (i .id)))
+    same-method = ap (λ (b : Bool). (b && eqb (locationOf f (i .id) .reference) 0) && goodLengths (locationOf f (i .id)))
+        (same-leb (locationOf f (i .id) .method) 1 (locationOf f (i .id) .method) 2 (λ h. omega arith) (λ h. below h (eqb-false _ 2 m)))
+      where
+        below : {k : ℕ} → k ≤ 2 → (k ≡ 2 → ⊥) → k ≤ 1
+        below h n = omega arith
+
+    names-none : namesPast 8 f (i .id) ≡ false
+    unfolding namesPast
+    names-none = rw m
+
+    same-place : withinAndBytes ≡ (not (namesPast 8 f (i .id)) && (file.within total head f (i .id) && hasBytes f i))
+    same-place = sym (ap (λ (b : Bool). not b && (file.within total head f (i .id) && hasBytes f i)) names-none
+        ∙ ap (λ (b : Bool). b && hasBytes f i) (within-other total head f (i .id) m))
+
+    pub plain-same : plainRule total head f i ≡ rule13-30-14 total head f i
+    unfolding rule13-30-14
+    plain-same =
+        plain-other m ∙ between methodAndLengths (chained 8 f (i .id)) withinAndBytes (chained-other f 8 (i .id) m)
+        ∙ ap (λ (b : Bool). check 13 (i .id) b >> check 30 (i .id) (chained 8 f (i .id)) >> check 14 (i .id) withinAndBytes) same-method
+        ∙ ap (λ (b : Bool). check 13 (i .id) (goodMethod (locationOf f (i .id)) && goodLengths (locationOf f (i .id))) >>
+        check 30 (i .id) (chained 8 f (i .id)) >> check 14 (i .id) b) same-place
+
+-- plainRule: by answers, each needed only where those before it are yes; the lengths apart only where an extent is wrong
+module _ (total : ℕ) (head : List ℕ) (f : File) (i : Item) (good : Bool) (e : good ≡ plainMethod (locationOf f (i .id))) where
+  pub fault-made : madeOfItems f (i .id) ≡ true → 30 ≡ faultOf (plainRule total head f i)
+  unfolding plainRule faultOf
+  fault-made m = sym (ap faultOf (pick-yes _ _ m))
+
+  pub fault-method : good ≡ false → madeOfItems f (i .id) ≡ false → 13 ≡ faultOf (plainRule total head f i)
+  unfolding faultOf check _>>_
+  fault-method n m = rw (plain-other total head f i m, ← e, n) refl
 
   module _ (y : good ≡ true) (inside : Bool) (q : inside ≡
       (goodLengths (locationOf f (i .id)) && within (storeOf total head f (locationOf f (i .id) .method))
       (locationOf f (i .id)))) where
-    module _ (n : inside ≡ false) (long : Bool) (p : long ≡ goodLengths (locationOf f (i .id))) where
-      pub fault-length : long ≡ false → 13 ≡ faultOf (rule13-14 total head f i)
-      unfolding rule13-14 faultOf check _>>_
-      fault-length z = rw (← e, y, ← p, z) refl
+    -- method 0 or 1
+    other : madeOfItems f (i .id) ≡ false
+    other =
+        let few = leb-true (locationOf f (i .id) .method) 1 (and-both (leb (locationOf f (i .id) .method) 1) _ (sym e ∙ y) .0) in
+        ne-eqb (locationOf f (i .id) .method) 2 (λ z. omega arith)
 
-      pub fault-outside : long ≡ true → 14 ≡ faultOf (rule13-14 total head f i)
-      unfolding rule13-14 faultOf check _>>_
+    module _ (n : inside ≡ false) (long : Bool) (p : long ≡ goodLengths (locationOf f (i .id))) where
+      pub fault-length : long ≡ false → 13 ≡ faultOf (plainRule total head f i)
+      unfolding faultOf check _>>_
+      fault-length z = rw (plain-other total head f i other, ← e, y, ← p, z) refl
+
+      pub fault-outside : long ≡ true → 14 ≡ faultOf (plainRule total head f i)
+      unfolding faultOf check _>>_
       fault-outside z =
           let o : within (storeOf total head f (locationOf f (i .id) .method)) (locationOf f (i .id)) ≡ false = rw (sym p ∙ z) at (sym q ∙ n) in
-          rw (← e, y, ← p, z, o) refl
+          rw (plain-other total head f i other, ← e, y, ← p, z, o) refl
 
     module _ (z : inside ≡ true) (full : Bool) (p : full ≡ hasBytes f i) where
       both-good : (goodLengths (locationOf f (i .id)) ≡ true) × (within (storeOf total head f (locationOf f (i .id) .method)) (locationOf f (i .id)) ≡ true)
       both-good = and-both (goodLengths (locationOf f (i .id))) _ (sym q ∙ z)
 
-      pub fault-empty : full ≡ false → 14 ≡ faultOf (rule13-14 total head f i)
-      unfolding rule13-14 faultOf check _>>_
-      fault-empty n = rw (← e, y, both-good .0, both-good .1, ← p, n) refl
+      pub fault-empty : full ≡ false → 14 ≡ faultOf (plainRule total head f i)
+      unfolding faultOf check _>>_
+      fault-empty n = rw (plain-other total head f i other, ← e, y, both-good .0, both-good .1, ← p, n) refl
 
-      pub fault-none : full ≡ true → 0 ≡ faultOf (rule13-14 total head f i)
-      unfolding rule13-14 faultOf check _>>_
-      fault-none n = rw (← e, y, both-good .0, both-good .1, ← p, n) refl
+      pub fault-none : full ≡ true → 0 ≡ faultOf (plainRule total head f i)
+      unfolding faultOf check _>>_
+      fault-none n = rw (plain-other total head f i other, ← e, y, both-good .0, both-good .1, ← p, n) refl

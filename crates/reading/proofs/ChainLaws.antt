@@ -18,7 +18,7 @@ use Rattle.contents.specs.Iloc.{Location, extentsIn, iloc-form}
 use Rattle.contents.specs.Ipma.{associationsIn}
 use Rattle.contents.specs.Iprp.{IprpContent, iprp-content}
 use Rattle.contents.specs.File.{File}
-use Rattle.rules.specs.Joined.{derivedFrom}
+use Rattle.rules.specs.Joined.{referredFrom}
 use Rattle.rules.specs.Places.{placesAt}
 use Rattle.records.specs.inner.Raw.{rawOf}
 use Rattle.records.specs.inner.Rows.{idsIn, Distinct}
@@ -43,7 +43,7 @@ module _ (s : List ℕ) (at n : ℕ) (f : File) (x t : List ℕ) (b : Before s a
       ∙ rw e refl
 
   pub none-derived : f .derivations ≡ [] → (k : ℕ) → k < n → getD t (16 + 16 * k + 6) 0 ≡ 0
-  unfolding derivedFrom
+  unfolding referredFrom
   none-derived e k h =
       let c = b .ready .count in
       ap (λ (u : List ℕ). getD u (16 + 16 * k + 6) 0) (b .is)
@@ -93,6 +93,7 @@ last-begins s at n is ls x t u v p k e b q w hp hk he =
                 };
           };
       none = refl;
+      no-links = refl;
       properties = sym hp;
       associations = sym hk;
       targets = refl;

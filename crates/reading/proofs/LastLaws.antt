@@ -15,12 +15,13 @@ use Rattle.boxes.specs.inner.Family.{spotOf}
 use Rattle.boxes.specs.declared.Spot.{Spot}
 use Rattle.boxes.specs.declared.Refusal.{Refusal}
 use Rattle.contents.specs.Iinf.{idsOf}
-use Rattle.contents.specs.Iref.{Derivation, targetsIn, references}
+use Rattle.contents.specs.Iref.{IrefContent, noReferences, targetsIn, references}
 use Rattle.contents.specs.File.{File}
 use Rattle.rules.specs.Places.{firstOf, placesAt}
 use Rattle.records.specs.inner.Raw.{rawOf}
 use Rattle.records.specs.inner.Rows.{idsIn}
-use Rattle.records.specs.inner.Stage.{Kept, withDerivations}
+use Rattle.records.specs.inner.Stage.{Kept, withReferences}
+use Rattle.records.specs.inner.Named.{NamedRows}
 use Rattle.references.specs.inner.Told.{toldReferences, ReferencesLeft}
 use Rattle.references.specs.declared.ReferencesRead.the-variants as told
 use Rattle.records.proofs.KeptLaws.{kept-same}
@@ -29,9 +30,10 @@ use Rattle.reading.proofs.BoundLaws.{iref-few}
 use Rattle.reading.specs.declared.Counts.{Counts}
 use Rattle.reading.specs.declared.FileRead.{FileRead}
 use Rattle.reading.specs.declared.FileRead.the-variants.{Refused}
-use Rattle.reading.specs.inner.Parts.{kids, Standing, LastBefore, After, shownOf, fromReferences, toldSpot, Has}
+use Rattle.reading.specs.inner.Parts.{kids, Standing, LastBefore, After, NamedOf, shownOf, fileBy, fromReferences, toldSpot, Has}
 use Rattle.reading.proofs.SpotLaws.{there, not-there, boxes-all, boxes-joined, spot-is, SpotIs}
 use Rattle.reading.proofs.StageLaws.{ids-are, after-refused, after-read, references-none, references-read, references-gone}
+use Rattle.reading.proofs.NamedLaws.{file-named}
 use Rattle.reading.proofs.ToldLaws.{references-ok}
 
 abbrev pub seat : List Spot → ℕ → Spot
@@ -110,21 +112,31 @@ module _ (s : List ℕ) (at total primary : ℕ) (spots : List Spot) (st : Stand
   abbrev result : FileRead → List ℕ → Type 0
   result r u = After s at total (fromReferences at (kids s) primary (f .items) (f .locations) (shownOf f)) r x u
 
+  abbrev naming : List ℕ → Type 0
+  naming v = NamedOf (fromReferences at (kids s) primary (f .items) (f .locations) (shownOf f)) v
+
   abbrev stored : ℕ → List ℕ → List ℕ
   stored n y = set (set (set (set (set (set (set (set y 0 (c .items)) 1 (c .properties)) 2 (c .associations)) 3 n) 4
       (c .extents)) 5 primary) 6 (total / 4294967296)) 7 (total % 4294967296)
 
-  none-yet : rawOf [] (placesAt at (kids s)) f ≡ rawOf [] (placesAt at (kids s)) (withDerivations f [])
+  none-yet : rawOf [] (placesAt at (kids s)) f ≡ rawOf [] (placesAt at (kids s)) (withReferences f noReferences)
   unfolding rawOf
   none-yet = rw (l .none) refl
 
-  pub last-none : here .end ≡ 0 → (u : List ℕ) → u ≡ stored (c .targets) t → (r : FileRead) → r ≡ toldSpot at s → result r u
-  unfolding targetsIn
-  last-none h u w r a =
-      after-read s at total primary c f x t t u l [] (c .targets) (sym (l .targets))
-      (references-none s at spots st primary (f .items) (f .locations) (shownOf f)
-      (not-there iref (kids s) (boxes-all s at spots st) (ap (λ (p : Spot). p .end) (sym here-is) ∙ h)))
-      (l .before .is ∙ ap (λ (y : List ℕ). y ++ x) none-yet) w r a
+  module _ (h : here .end ≡ 0) where
+    none-read : fromReferences at (kids s) primary (f .items) (f .locations) (shownOf f)
+        ≡ ok (fileBy at (kids s) primary (f .items) (f .locations) (shownOf f) noReferences)
+    none-read = references-none s at spots st primary (f .items) (f .locations) (shownOf f)
+        (not-there iref (kids s) (boxes-all s at spots st) (ap (λ (p : Spot). p .end) (sym here-is) ∙ h))
+
+    pub last-none : (u : List ℕ) → u ≡ stored (c .targets) t → (r : FileRead) → r ≡ toldSpot at s → result r u
+    unfolding targetsIn
+    last-none u w r a =
+        after-read s at total primary c f x t t u l noReferences (c .targets) (sym (l .targets)) none-read
+        (l .before .is ∙ ap (λ (y : List ℕ). y ++ x) none-yet) w r a
+
+    pub last-none-named : (v : List ℕ) → NamedRows (f .items) (f .locations) [] v → naming v
+    last-none-named v n = file-named _ _ v none-read n
 
   module _ (h : here .end ≡ 0 → ⊥) where
     is-here : SpotIs s at iref (kids s) here
@@ -135,7 +147,7 @@ module _ (s : List ℕ) (at total primary : ℕ) (spots : List Spot) (st : Stand
 
     -- the answer of the code is that of the definition
     module _ (part : List ℕ) (pe : part ≡ take (here .end - here .body) (drop (here .body) s)) where
-      abbrev meant : Answer (List Derivation)
+      abbrev meant : Answer IrefContent
       meant = references (idsOf (f .items)) (placeOf iref at (kids s))
           (placeOf iref at (kids s) + headOf (firstOf iref (kids s))) (bodyOf (firstOf iref (kids s)))
 
@@ -151,6 +163,10 @@ module _ (s : List ℕ) (at total primary : ℕ) (spots : List Spot) (st : Stand
       pub last-few : (k : ℕ) → toldReferences (references (idsIn t (c .items)) (at + here .start) (at + here .body) part) ≡ told.Targets k → k ≤ 2048
       last-few k e = let o = references-ok _ k e in let b = iref-few _ _ _ _ (o .0) (o .1) in omega (arith, o .2)
 
+      same-ids : references (idsIn t (c .items)) (at + here .start) (at + here .body) part
+          ≡ references (idsOf (f .items)) (at + here .start) (at + here .body) part
+      same-ids = ap (λ (ids : List ℕ). references ids (at + here .start) (at + here .body) part) (ids-are s at (c .items) f x t (l .before))
+
       pub last-read : (k : ℕ) → toldReferences (references (idsIn t (c .items)) (at + here .start) (at + here .body)
           part) ≡ told.Targets k → (v u : List ℕ) →
           ReferencesLeft part (at + here .start) (at + here .body) (c .items) t v → u ≡ stored k v → (r : FileRead) →
@@ -160,6 +176,14 @@ module _ (s : List ℕ) (at total primary : ℕ) (spots : List Spot) (st : Stand
           let m : meant ≡ ok (o .0) = sym same ∙ o .1 in
           after-read s at total primary c f x t v u l (o .0) k (o .2)
           (references-read s at spots st primary (f .items) (f .locations) (shownOf f) has (o .0) m)
-          (left .told (placesAt at (kids s)) f x (o .0) (l .before .ready) (l .none)
-          (ap (λ (ids : List ℕ). references ids (at + here .start) (at + here .body) part)
-          (sym (ids-are s at (c .items) f x t (l .before))) ∙ o .1) (l .before .is)) w r a
+          (left .told (placesAt at (kids s)) f x (o .0) (l .before .ready) (l .none) (sym same-ids ∙ o .1) (l .before .is)) w r a
+
+      pub last-named : (k : ℕ) → toldReferences (references (idsIn t (c .items)) (at + here .start) (at + here .body)
+          part) ≡ told.Targets k → (v : List ℕ) → ((refs : IrefContent) → references (idsOf (f .items))
+          (at + here .start) (at + here .body) part ≡ ok refs → NamedRows (f .items) (f .locations) (refs .links) v) →
+          naming v
+      last-named k e v named =
+          let o = references-ok _ k e in
+          file-named _ _ v
+          (references-read s at spots st primary (f .items) (f .locations) (shownOf f) has (o .0) (sym same ∙ o .1))
+          (named (o .0) (sym same-ids ∙ o .1))

@@ -4,6 +4,7 @@ pub mod BoundLaws
 pub mod TableLaws
 pub mod ToldLaws
 pub mod StageLaws
+pub mod NamedLaws
 pub mod ChainLaws
 pub mod MetaLaws
 pub mod LastLaws

@@ -74,12 +74,12 @@ module _ (s : List ℕ) (at : ℕ) (spots : List Spot) (st : Standing s spots) w
       pub iloc-on : (k : ℕ) → toldLocations read ≡ located.Done k → (d : ℕ) → d ≡ placesAt at (kids s) .idat →
           (u : List ℕ) → LocationsLeft part (at + seat spots 3 .start) n d t u → (primary : ℕ) → (ls : List Location) ×
           Before s at n (withLocations (withItems is) ls) x u × (extentsIn ls ≡ k) ×
-          (fromLocations at (kids s) primary is ≡ fromShown at (kids s) primary is ls)
+          (fromLocations at (kids s) primary is ≡ fromShown at (kids s) primary is ls) × (read ≡ ok ls)
       iloc-on k e d de u left primary =
           let o = locations-ok _ k e in
           let m : meant ≡ ok (o .0) = sym same ∙ o .1 in
           let w = left .told (placesAt at (kids s)) (withItems is) x (o .0) (sym de) (b .ready) refl (sym same-ids ∙ o .1) (b .is) in
-          (o .0, shown-begins s at n is x t u (o .0) b m w, o .2, locations-on at (kids s) primary is (o .0) m)
+          (o .0, shown-begins s at n is x t u (o .0) b m w, o .2, locations-on at (kids s) primary is (o .0) m, o .1)
 
 -- `iprp`
 module _ (s : List ℕ) (at : ℕ) (spots : List Spot) (st : Standing s spots) where

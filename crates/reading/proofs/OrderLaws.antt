@@ -21,8 +21,8 @@ use lib.Seq.{length-take-le, take-suc, drop-cons, append-snoc, getD-take, getD-d
 use Rattle.boxes.specs.Answer.{Answer, ok, refuse, _>>=_}
 use Rattle.boxes.proofs.AnswerLaws.{with-ok, ok-inj}
 use Rattle.contents.specs.Iinf.{Item, idsOf}
-use Rattle.contents.specs.Iref.{Derivation, targetsIn}
-use Rattle.contents.specs.File.{File, referred}
+use Rattle.contents.specs.Iref.{targetsIn}
+use Rattle.contents.specs.File.{File}
 use Rattle.rules.specs.Places.{Places, placesAt}
 use Rattle.rules.specs.Words.{region, headWords}
 use Rattle.records.specs.inner.Raw.{rawOf}
@@ -31,10 +31,11 @@ use Rattle.records.specs.inner.Rows.{idsIn, TargetsRowed, Rowed}
 use Rattle.records.proofs.SetsLaws.{getD-from}
 use Rattle.records.proofs.SaidLaws.{derived-total}
 use Rattle.records.proofs.KeyedLaws.{keys-long}
+use Rattle.records.proofs.PickLaws.{named-same}
 use Rattle.reading.specs.declared.FileRead.{FileRead}
 use Rattle.reading.specs.declared.FileRead.the-variants.{Is}
-use Rattle.reading.specs.inner.Parts.{kids, After, toldFile, fromReferences, fromShown, fromLocations}
-use Rattle.reading.proofs.BoundLaws.{iref-few}
+use Rattle.reading.specs.inner.Parts.{kids, After, NamedOf, toldFile, fromReferences, fromShown, fromLocations}
+use Rattle.reading.proofs.BoundLaws.{referred-few}
 use Rattle.reading.proofs.StageLaws.{ids-read}
 
 -- put_order: the first k of them are put
@@ -110,19 +111,28 @@ module _ (ids v : List ℕ) (room : 2304 ≤ length v) where
         λ k h. put-there k (omega arith) ∙ ap (λ (y : List ℕ). getD (orderOf y) k 0) (sym (ap (idsIn t) c ∙ i)),
       )
 
--- fromLocations: a file that is read has the items that it began with, and no more targets than there may be
-referred-few : (ids : List ℕ) (p : ℕ) (bs : List (List ℕ)) (ds : List Derivation) → referred ids p bs ≡ ok ds → targetsIn ds ≤ 2048
-unfolding referred targetsIn
-referred-few ids p [] ds e = rw (← ok-inj _ _ e) (omega arith)
-referred-few ids p (b ∷ bs) ds e = iref-few ids _ _ _ ds e
+  -- what extents name stands behind 256 rows
+  put-behind : length ids ≤ 256 → (j : ℕ) → 2304 ≤ j → getD (orderPut (orderOf ids) v) j 0 ≡ getD v j 0
+  put-behind few j h =
+      let l : length (orderOf ids) ≡ length ids = length-map (keysOf ids) _ ∙ keys-long ids in
+      let a : 2048 + (j - 2048) ≡ j = omega arith in
+      let b : 2048 + length (orderOf ids) + (j - (2048 + length ids)) ≡ j = omega arith in
+      getD-from (take 2048 v) _ 2048 (j - 2048) j (length-take-le 2048 v (omega arith)) (sym a)
+      ∙ getD-from (orderOf ids) _ (length ids) (j - (2048 + length ids)) (j - 2048) l (omega arith)
+      ∙ getD-drop (2048 + length (orderOf ids)) v (j - (2048 + length ids)) 0
+      ∙ ap (λ (i : ℕ). getD v i 0) b
 
+  pub order-named : length ids ≤ 256 → (w : List ℕ) → w ≡ orderPut (orderOf ids) v → (m : Answer File) → NamedOf m v → NamedOf m w
+  order-named few w q m h g e = named-same _ _ _ v w (λ j k. ap (λ (y : List ℕ). getD y j 0) q ∙ put-behind few j k) (h g e)
+
+-- fromLocations: a file that is read has the items that it began with, and no more targets than there may be
 locations-file : (at : ℕ) (bs : List (List ℕ)) (primary : ℕ) (is : List Item) (g : File) → fromLocations at bs primary is ≡ ok g →
     (g .items ≡ is) × (targetsIn (g .derivations) ≤ 2048)
 unfolding fromLocations fromShown fromReferences
 locations-file at bs primary is g e =
-    with-ok _ _ g e (λ ls a b. with-ok _ _ g b (λ v c d. with-ok _ _ g d (λ ds h k.
+    with-ok _ _ g e (λ ls a b. with-ok _ _ g b (λ v c d. with-ok _ _ g d (λ refs h k.
     let w = ok-inj _ _ k in
-    (sym (ap (λ (f : File). f .items) w), subst (λ (f : File). targetsIn (f .derivations) ≤ 2048) w (referred-few _ _ _ ds h)))))
+    (sym (ap (λ (f : File). f .items) w), subst (λ (f : File). targetsIn (f .derivations) ≤ 2048) w (referred-few _ _ _ refs h)))))
 
 -- After: the table of a file that is read
 read-file : (idat : ℕ) (m : Answer File) (r : FileRead) (i e : ℕ) → r ≡ toldFile idat m → r ≡ Is i e → (g : File) × (m ≡ ok g)

@@ -17,13 +17,13 @@ use Rattle.boxes.proofs.ChildLaws.{nil-filled}
 use Rattle.contents.specs.Iinf.{Item, idsOf}
 use Rattle.contents.specs.Iloc.{Location}
 use Rattle.contents.specs.Iprp.{IprpContent}
-use Rattle.contents.specs.Iref.{Derivation, targetsIn, references}
+use Rattle.contents.specs.Iref.{IrefContent, noReferences, targetsIn, references}
 use Rattle.contents.specs.File.{File, referred}
 use Rattle.rules.specs.Places.{Places, firstOf, placesAt}
 use Rattle.rules.specs.Words.{headWords}
 use Rattle.records.specs.inner.Raw.{rawOf}
 use Rattle.records.specs.inner.Rows.{idAt, idsIn}
-use Rattle.records.specs.inner.Stage.{withDerivations}
+use Rattle.records.specs.inner.Stage.{withReferences}
 use Rattle.records.proofs.RawLaws.{raw-id}
 use Rattle.records.proofs.SaidLaws.{named-total, derived-total, located-total}
 use Rattle.reading.specs.declared.Counts.{Counts}
@@ -66,9 +66,9 @@ after-same s at total m k r x u e a = subst (λ (y : Answer File). After s at to
 
 -- After: all is read, and the first words are stored
 module _ (s : List ℕ) (at total primary : ℕ) (c : Counts) (f : File) (x t v u : List ℕ) (l : LastBefore s at c f x t)
-    (ds : List Derivation) (n : ℕ) (count : targetsIn ds ≡ n) where
+    (refs : IrefContent) (n : ℕ) (count : targetsIn (refs .derivations) ≡ n) where
   abbrev whole-file : File
-  whole-file = fileBy at (kids s) primary (f .items) (f .locations) (shownOf f) ds
+  whole-file = fileBy at (kids s) primary (f .items) (f .locations) (shownOf f) refs
 
   words-are : c .items ∷ c .properties ∷ c .associations ∷ n ∷ c .extents ∷ primary ∷ (total / 4294967296) ∷
       (total % 4294967296) ∷ [] ≡ headWords total whole-file
@@ -79,11 +79,11 @@ module _ (s : List ℕ) (at total primary : ℕ) (c : Counts) (f : File) (x t v 
     ← count,
     l .extents,
     named-total (f .associations),
-    derived-total ds,
+    derived-total (refs .derivations),
     located-total (f .locations),
   ) refl
 
-  same-lists : (hw : List ℕ) → rawOf hw (placesAt at (kids s)) (withDerivations f ds) ≡ rawOf hw (placesAt at (kids s)) whole-file
+  same-lists : (hw : List ℕ) → rawOf hw (placesAt at (kids s)) (withReferences f refs) ≡ rawOf hw (placesAt at (kids s)) whole-file
   unfolding rawOf
   same-lists hw = refl
 
@@ -91,18 +91,18 @@ module _ (s : List ℕ) (at total primary : ℕ) (c : Counts) (f : File) (x t v 
   stored y = set (set (set (set (set (set (set (set y 0 (c .items)) 1 (c .properties)) 2 (c .associations)) 3 n) 4
       (c .extents)) 5 primary) 6 (total / 4294967296)) 7 (total % 4294967296)
 
-  table-is : v ≡ rawOf [] (placesAt at (kids s)) (withDerivations f ds) ++ x → u ≡ stored v →
+  table-is : v ≡ rawOf [] (placesAt at (kids s)) (withReferences f refs) ++ x → u ≡ stored v →
       u ≡ rawOf (headWords total whole-file) (placesAt at (kids s)) whole-file ++ x
   table-is i w =
       w
       ∙ ap stored i
-      ∙ raw-head (placesAt at (kids s)) (withDerivations f ds) x (c .items) (c .properties) (c .associations) n
+      ∙ raw-head (placesAt at (kids s)) (withReferences f refs) x (c .items) (c .properties) (c .associations) n
       (c .extents) primary (total / 4294967296) (total % 4294967296)
-      ∙ ap (λ (y : List ℕ). y ++ x) (ap (λ (hw : List ℕ). rawOf hw (placesAt at (kids s)) (withDerivations f ds))
+      ∙ ap (λ (y : List ℕ). y ++ x) (ap (λ (hw : List ℕ). rawOf hw (placesAt at (kids s)) (withReferences f refs))
       words-are ∙ same-lists (headWords total whole-file))
 
   pub after-read : fromReferences at (kids s) primary (f .items) (f .locations) (shownOf f) ≡ ok whole-file →
-      v ≡ rawOf [] (placesAt at (kids s)) (withDerivations f ds) ++ x → u ≡ stored v → (r : FileRead) →
+      v ≡ rawOf [] (placesAt at (kids s)) (withReferences f refs) ++ x → u ≡ stored v → (r : FileRead) →
       r ≡ toldSpot at s → After s at total (fromReferences at (kids s) primary (f .items) (f .locations) (shownOf f)) r
       x u
   unfolding toldFile toldSpot
@@ -115,21 +115,22 @@ module _ (s : List ℕ) (at total primary : ℕ) (c : Counts) (f : File) (x t v 
 
 -- fromReferences
 module _ (s : List ℕ) (at : ℕ) (spots : List Spot) (st : Standing s spots) (primary : ℕ) (is : List Item) (ls : List Location) (sh : IprpContent) where
-  pub references-none : filled (ofKind iref (kids s)) ≡ false → fromReferences at (kids s) primary is ls sh ≡ ok (fileBy at (kids s) primary is ls sh [])
+  pub references-none : filled (ofKind iref (kids s)) ≡ false →
+      fromReferences at (kids s) primary is ls sh ≡ ok (fileBy at (kids s) primary is ls sh noReferences)
   unfolding fromReferences referred _>>=_
   references-none h = let n : ofKind iref (kids s) ≡ [] = nil-filled _ h in rw n
 
   referred-is : Has iref (kids s) → fromReferences at (kids s) primary is ls sh ≡
       (references (idsOf is) (placeOf iref at (kids s)) (placeOf iref at (kids s) + headOf (firstOf iref (kids s)))
-      (bodyOf (firstOf iref (kids s))) >>= (λ ds. ok (fileBy at (kids s) primary is ls sh ds)))
+      (bodyOf (firstOf iref (kids s))) >>= (λ refs. ok (fileBy at (kids s) primary is ls sh refs)))
   unfolding fromReferences referred
   referred-is h = let o = has-first iref (kids s) h in rw (o .1)
 
-  pub references-read : Has iref (kids s) → (ds : List Derivation) →
+  pub references-read : Has iref (kids s) → (refs : IrefContent) →
       references (idsOf is) (placeOf iref at (kids s)) (placeOf iref at (kids s) + headOf (firstOf iref (kids s)))
-      (bodyOf (firstOf iref (kids s))) ≡ ok ds → fromReferences at (kids s) primary is ls sh ≡ ok
-      (fileBy at (kids s) primary is ls sh ds)
-  references-read h ds e = referred-is h ∙ ok-bind _ _ ds e
+      (bodyOf (firstOf iref (kids s))) ≡ ok refs → fromReferences at (kids s) primary is ls sh ≡ ok
+      (fileBy at (kids s) primary is ls sh refs)
+  references-read h refs e = referred-is h ∙ ok-bind _ _ refs e
 
   pub references-gone : Has iref (kids s) → (r : Refusal) →
       references (idsOf is) (placeOf iref at (kids s)) (placeOf iref at (kids s) + headOf (firstOf iref (kids s)))

@@ -15,7 +15,7 @@ use Rattle.contents.specs.Iinf.{Item}
 use Rattle.contents.specs.Iloc.{Location, extentsIn}
 use Rattle.contents.specs.Ipma.{associationsIn}
 use Rattle.contents.specs.Iprp.{IprpContent}
-use Rattle.contents.specs.Iref.{Derivation, targetsIn}
+use Rattle.contents.specs.Iref.{IrefContent, targetsIn}
 use Rattle.contents.specs.inner.Told.{toldHdlr, toldPitm}
 use Rattle.contents.specs.declared.HdlrRead.the-variants as hdlr
 use Rattle.contents.specs.declared.PitmRead.the-variants as pitm
@@ -108,9 +108,10 @@ shown-ok (ok a) k l e = (a, refl, (let q : length (a .properties) ≡ k = cc in 
 shown-ok (refuse n p) k l e = let z : _≡_ {A = ℕ} 0 1 = cc in absurd (omega arith)
 
 -- toldReferences
-pub references-ok : (m : Answer (List Derivation)) (k : ℕ) → toldReferences m ≡ references.Targets k → (a : (List Derivation)) × (m ≡ ok a) × (targetsIn a ≡ k)
+pub references-ok : (m : Answer IrefContent) (k : ℕ) → toldReferences m ≡ references.Targets k → (a : IrefContent) × (m ≡ ok a) ×
+    (targetsIn (a .derivations) ≡ k)
 unfolding toldReferences
-references-ok (ok a) k e = (a, refl, (let q : targetsIn a ≡ k = cc in q))
+references-ok (ok a) k e = (a, refl, (let q : targetsIn (a .derivations) ≡ k = cc in q))
 references-ok (refuse n p) k e = let z : _≡_ {A = ℕ} 0 1 = cc in absurd (omega arith)
 
 -- toldMeta

@@ -84,7 +84,8 @@ use Rattle.reading.proofs.ToldLaws.{
   meta-refused,
   told-refused,
 }
-use Rattle.reading.proofs.StageLaws.{after-refused}
+use Rattle.reading.proofs.StageLaws.{after-refused, after-same}
+use Rattle.reading.proofs.NamedLaws.{no-file}
 use Rattle.reading.proofs.ChainLaws.{items-gone, items-on, handler-gone, primary-gone, primary-on}
 use Rattle.reading.proofs.PartLaws.{contents-refused, contents-missing}
 use Rattle.reading.proofs.MetaLaws.{
@@ -191,12 +192,14 @@ module _ (s : List ℕ) (at total : ℕ) (h p : Spot) (i : SpotIs s at hdlr (kid
         After s at total (fromHandler at (kids s)) (Refused r) x u
     pitm-refused-after r x u q = after-refused s at total _ r x u (primary-gone at (kids s) hdlr-is r (sym pitm-same ∙ pitm-refused _ r q))
 
+    pub pitm-on : (id : ItemId) → toldPitm (whole pitm-form (at + p .start) (partAt s p)) ≡ pitm-read.Primary id →
+        fromHandler at (kids s) ≡ fromItems at (kids s) (id .0)
+    pitm-on id q = let o = pitm-ok _ (id .0) q in primary-on at (kids s) hdlr-is (id .0) (sym pitm-same ∙ o .1 ∙ ap ok (o .2))
+
     pub pitm-after : (id : ItemId) (r : FileRead) (x u : List ℕ) →
         toldPitm (whole pitm-form (at + p .start) (partAt s p)) ≡ pitm-read.Primary id →
         After s at total (fromItems at (kids s) (id .0)) r x u → After s at total (fromHandler at (kids s)) r x u
-    pitm-after id r x u q a =
-        let o = pitm-ok _ (id .0) q in
-        subst (λ (m : Answer File). After s at total m r x u) (sym (primary-on at (kids s) hdlr-is (id .0) (sym pitm-same ∙ o .1 ∙ ap ok (o .2)))) a
+    pitm-after id r x u q a = after-same s at total _ _ r x u (pitm-on id q) a
 
 -- contentsOf
 module _ (p at total : ℕ) (s : List ℕ) where
@@ -223,9 +226,11 @@ module _ (p at total : ℕ) (s : List ℕ) where
     pub whole-standing : b ≡ false → Standing s spots
     whole-standing t = standing p at s found found-is spots (q ∙ ap spotsOf found-is) (subst (Missing found) t missing-is)
 
+    pub whole-is : b ≡ false → contentsOf p at s ≡ fromHandler at (kids s)
+    whole-is t = contents-kids p at s found found-is (subst (Missing found) t missing-is)
+
     pub whole-after : b ≡ false → (r : FileRead) (x u : List ℕ) → After s at total (fromHandler at (kids s)) r x u → After s at total (contentsOf p at s) r x u
-    whole-after t r x u a = subst (λ (m : Answer File). After s at total m r x u)
-        (sym (contents-kids p at s found found-is (subst (Missing found) t missing-is))) a
+    whole-after t r x u a = after-same s at total _ _ r x u (whole-is t) a
 
 -- what follows version and flags
 abbrev pub restOf : List ℕ → List ℕ
@@ -247,6 +252,9 @@ module _ (p at total : ℕ) (s : List ℕ) where
   module _ (v f : ℕ) (e : toldFull (full (between 0 0) .read p s) ≡ full-read.Is v f) where
     pub full-room : 4 ≤ length s
     full-room = full-here _ p s v f e .room
+
+    pub full-is : fileOf p at s ≡ contentsOf p (at + 4) (restOf s)
+    full-is = file-here p at s v f (full-here _ p s v f e) ∙ ap (contentsOf p (at + 4)) (sym (rest-is s))
 
     pub full-after : (r : FileRead) (x u : List ℕ) → After (restOf s) (at + 4) total (contentsOf p (at + 4) (restOf s))
         r x u → After (drop 4 s) (at + 4) total (fileOf p at s) r x u
@@ -287,9 +295,6 @@ meta-part total head m place f =
     }
 
 -- toldFile
-no-file : {P : Type 0} (m : Answer File) (r : Refusal) (g : File) → m ≡ refuse (r .number) (r .place) → m ≡ ok g → P
-no-file m r g e q = let z : _≡_ {A = Answer File} (refuse (r .number) (r .place)) (ok g) = sym e ∙ q in let w : _≡_ {A = ℕ} 0 1 = cc in absurd (omega arith)
-
 file-refused : (i : ℕ) (m : Answer File) (r : Refusal) → Refused r ≡ toldFile i m → m ≡ refuse (r .number) (r .place)
 unfolding toldFile
 file-refused i m r e = told-refused (toldFile i) Refused (λ n p. refl) (λ r q e. cc) (λ a r e. let z : _≡_ {A = ℕ} 0 1 = cc in absurd (omega arith)) m r (sym e)
@@ -305,7 +310,7 @@ module _ (total : ℕ) (head : List ℕ) (h : length head ≤ 65536) (k : length
   unfolding toldFile
   meta-refused-left r x u q =
       let e = read-gone total head h k r (meta-refused _ r q) in
-      record { answer = sym (ap (toldFile (placesIn total head .idat)) e); left = λ g z. no-file _ r g e z }
+      record { answer = sym (ap (toldFile (placesIn total head .idat)) e); left = λ g z. no-file _ _ _ e g z }
 
   module _ (s b e : ℕ) (q : toldMeta (metaIn total head) ≡ found-meta.At s b e) where
     abbrev metaBox : Top.PlacedBox
@@ -325,6 +330,15 @@ module _ (total : ℕ) (head : List ℕ) (h : length head ≤ 65536) (k : length
         let l : length (take (e - b) (drop b head)) ≡ e - b = simp (length-take, length-drop) (omega arith) in
         omega arith
 
+    pub meta-file : readFile total head ≡ fileOf s b (take (e - b) (drop b head))
+    meta-file =
+        let o = meta-ok _ s b e q in
+        let m = metaBox in
+        read-meta total head h k m (o .1)
+        ∙ ap (λ (z : ℕ). fileOf z (m .place + headOf (m .box)) (bodyOf (m .box))) (o .2)
+        ∙ ap (λ (z : ℕ). fileOf s z (bodyOf (m .box))) (o .3)
+        ∙ ap (fileOf s b) (sym (meta-room .part))
+
     pub meta-left : (r : FileRead) (x u : List ℕ) → After (drop 4 (take (e - b) (drop b head))) (b + 4) total
         (fileOf s b (take (e - b) (drop b head))) r x u → ReadLeft total head r x u
     meta-left r x u a =
@@ -335,9 +349,7 @@ module _ (total : ℕ) (head : List ℕ) (h : length head ≤ 65536) (k : length
         let pl : placesIn total head ≡ placesAt (b + 4) (kids (drop 4 y)) = places-are total head m (o .1) ∙
         ap (λ (z : ℕ). placesAt (z + 4) (kids (drop 4 (bodyOf (m .box))))) (o .3) ∙
         ap (λ (z : List ℕ). placesAt (b + 4) (kids (drop 4 z))) (sym w) in
-        let fl : readFile total head ≡ fileOf s b y = read-meta total head h k m (o .1) ∙
-        ap (λ (z : ℕ). fileOf z (m .place + headOf (m .box)) (bodyOf (m .box))) (o .2) ∙
-        ap (λ (z : ℕ). fileOf s z (bodyOf (m .box))) (o .3) ∙ ap (fileOf s b) (sym w) in
+        let fl = meta-file in
         record {
           answer = a .answer ∙ ap (λ (l : Places). toldFile (l .idat) (fileOf s b y)) (sym pl) ∙ ap (toldFile (placesIn total head .idat)) (sym fl);
           left = λ g z. a .left g (sym fl ∙ z) ∙ ap (λ (l : Places). rawOf (headWords total g) l g ++ x) (sym pl);

@@ -4,17 +4,19 @@ ghost use mathlib.Core.List.{List, [], _∷_, _++_};
 ghost use Prim.Native.Nat.{ℕ, _+_, _/_, _%_, _≤_, _<_};
 ghost use lib.ListN.{length, drop, replicate, set};
 ghost use Rattle.fields.specs.Lists.{All};
+ghost use Rattle.boxes.specs.Answer.{ok};
 ghost use Rattle.boxes.specs.Box.{IsBox};
 ghost use Rattle.contents.specs.Iinf.{Item};
 ghost use Rattle.contents.specs.Iloc.{Location, extentsIn};
 ghost use Rattle.contents.specs.Ipma.{associationsIn};
 ghost use Rattle.contents.specs.Iprp.{IprpContent};
-ghost use Rattle.contents.specs.File.{File, contentsOf, fileOf};
+ghost use Rattle.contents.specs.File.{File, contentsOf, fileOf, readFile};
 ghost use Rattle.rules.specs.Places.{placesAt};
 ghost use Rattle.records.specs.inner.Raw.{unread, rawOf};
 ghost use Rattle.records.specs.inner.Stage.{Kept, withItems, withLocations, withProperties, withNames};
 ghost use Rattle.records.specs.inner.Keys.{orderOf, orderPut, Keyed};
 ghost use Rattle.records.specs.inner.Rows.{TargetsRowed, Rowed};
+ghost use Rattle.records.specs.inner.Named.{NamedRows, NamedIn};
 ghost use Rattle.reading.specs.declared.FileRead.the-variants.{Is};
 ghost use Rattle.reading.specs.inner.Parts.{
   kids,
@@ -23,6 +25,7 @@ ghost use Rattle.reading.specs.inner.Parts.{
   LastBefore,
   After,
   ReadLeft,
+  NamedOf,
   shownOf,
   fromHandler,
   fromItems,
@@ -115,12 +118,16 @@ fn read_last(
     keys: &[u64; 512],
 ) -> FileRead
     requires { ⌜ (Standing (now s) spots) × (at + length (now s) ≤ 65536) × (11280 ≤ length (now table)) ×
-        (2048 ≤ length (now rows)) × ((f : File) × (x : List ℕ) × LastBefore (now s) at c f x (now table)) ⌝ }
+        (2816 ≤ length (now rows)) × ((f : File) × (x : List ℕ) × LastBefore (now s) at c f x (now table)) ⌝ }
     ensures { λ r. ⌜ ((f : File) (x : List ℕ) → LastBefore (now (s .entry)) at c f x (now (table .entry)) →
         After (now (s .entry)) at total (fromReferences at (kids (now (s .entry))) (primary .0) (f .items)
         (f .locations) (shownOf f)) r x (now (table .exit))) ⌝ }
     ensures { λ _. ⌜ Kept (now (table .entry)) (now (table .exit)) ⌝ }
     ensures { λ r. ⌜ ((i e : ℕ) → r ≡ Is i e → TargetsRowed (now (table .exit)) (now (rows .exit))) ⌝ }
+    ensures { λ _. ⌜ ((f : File) (x : List ℕ) → LastBefore (now (s .entry)) at c f x (now (table .entry)) →
+        NamedRows (f .items) (f .locations) [] (now (rows .entry)) →
+        NamedOf (fromReferences at (kids (now (s .entry))) (primary .0) (f .items) (f .locations) (shownOf f))
+        (now (rows .exit))) ⌝ }
 {
     let r = spots[5];
     let start = r.start;
@@ -157,7 +164,7 @@ fn read_iprp(
     extents: usize,
 ) -> FileRead
     requires { ⌜ (Standing (now s) spots) × (at + length (now s) ≤ 65536) × (11280 ≤ length (now table)) ×
-        (2048 ≤ length (now rows)) × ((is : List Item) × (ls : List Location) × (x : List ℕ) ×
+        (2816 ≤ length (now rows)) × ((is : List Item) × (ls : List Location) × (x : List ℕ) ×
         Before (now s) at n (withLocations (withItems is) ls) x (now table) × (extentsIn ls ≡ extents)) ⌝ }
     ensures { λ r. ⌜ ((is : List Item) (ls : List Location) (x : List ℕ) →
         Before (now (s .entry)) at n (withLocations (withItems is) ls) x (now (table .entry)) → extentsIn ls ≡ extents →
@@ -165,6 +172,10 @@ fn read_iprp(
         (now (table .exit))) ⌝ }
     ensures { λ _. ⌜ Kept (now (table .entry)) (now (table .exit)) ⌝ }
     ensures { λ r. ⌜ ((i e : ℕ) → r ≡ Is i e → TargetsRowed (now (table .exit)) (now (rows .exit))) ⌝ }
+    ensures { λ _. ⌜ ((is : List Item) (ls : List Location) (x : List ℕ) →
+        Before (now (s .entry)) at n (withLocations (withItems is) ls) x (now (table .entry)) → extentsIn ls ≡ extents →
+        NamedRows is ls [] (now (rows .entry)) →
+        NamedOf (fromShown at (kids (now (s .entry))) (primary .0) is ls) (now (rows .exit))) ⌝ }
 {
     let p = spots[4];
     let start = p.start;
@@ -217,7 +228,7 @@ fn read_iloc(
     keys: &[u64; 512],
 ) -> FileRead
     requires { ⌜ (Standing (now s) spots) × (at + length (now s) ≤ 65536) × (11280 ≤ length (now table)) ×
-        (2048 ≤ length (now rows)) × ((is : List Item) × (x : List ℕ) ×
+        (2816 ≤ length (now rows)) × ((is : List Item) × (x : List ℕ) ×
         Before (now s) at n (withItems is) x (now table)) ⌝ }
     ensures { λ r. ⌜ ((is : List Item) (x : List ℕ) →
         Before (now (s .entry)) at n (withItems is) x (now (table .entry)) →
@@ -225,13 +236,24 @@ fn read_iloc(
         (now (table .exit))) ⌝ }
     ensures { λ _. ⌜ Kept (now (table .entry)) (now (table .exit)) ⌝ }
     ensures { λ r. ⌜ ((i e : ℕ) → r ≡ Is i e → TargetsRowed (now (table .exit)) (now (rows .exit))) ⌝ }
+    ensures { λ _. ⌜ ((is : List Item) (x : List ℕ) →
+        Before (now (s .entry)) at n (withItems is) x (now (table .entry)) →
+        NamedOf (fromLocations at (kids (now (s .entry))) (primary .0) is) (now (rows .exit))) ⌝ }
 {
     let l = spots[3];
     let start = l.start;
     let body = l.body;
     let end = l.end;
     let idat = idat_at(spots, at);
-    let t = locations::read_locations(&s[body..end], (at + start) as u64, table, n, keys, idat);
+    let t = locations::read_locations(
+        &s[body..end],
+        (at + start) as u64,
+        table,
+        &mut *rows,
+        n,
+        keys,
+        idat,
+    );
     match t {
         LocationsRead::Refused(f) => FileRead::Refused(f),
         LocationsRead::Done(extents) => read_iprp(
@@ -274,11 +296,12 @@ fn read_iinf(
     primary: ItemId,
 ) -> FileRead
     requires { ⌜ (Standing (now s) spots) × (at + length (now s) ≤ 65536) × (11280 ≤ length (now table)) ×
-        (2304 ≤ length (now rows)) × ((x : List ℕ) × (now table ≡ replicate 11280 0 ++ x)) ⌝ }
+        (2816 ≤ length (now rows)) × ((x : List ℕ) × (now table ≡ replicate 11280 0 ++ x)) ⌝ }
     ensures { λ r. ⌜ ((x : List ℕ) → (now (table .entry)) ≡ replicate 11280 0 ++ x →
         After (now (s .entry)) at total (fromItems at (kids (now (s .entry))) (primary .0)) r x (now (table .exit))) ⌝ }
     ensures { λ _. ⌜ Kept (now (table .entry)) (now (table .exit)) ⌝ }
     ensures { λ r. ⌜ ((i e : ℕ) → r ≡ Is i e → Rowed (now (table .exit)) (now (rows .exit))) ⌝ }
+    ensures { λ _. ⌜ NamedOf (fromItems at (kids (now (s .entry))) (primary .0)) (now (rows .exit)) ⌝ }
 {
     let i = spots[2];
     let start = i.start;
@@ -313,11 +336,12 @@ fn read_contents(
     total: u64,
 ) -> FileRead
     requires { ⌜ (Standing (now s) spots) × (at + length (now s) ≤ 65536) × (11280 ≤ length (now table)) ×
-        (2304 ≤ length (now rows)) × ((x : List ℕ) × (now table ≡ replicate 11280 0 ++ x)) ⌝ }
+        (2816 ≤ length (now rows)) × ((x : List ℕ) × (now table ≡ replicate 11280 0 ++ x)) ⌝ }
     ensures { λ r. ⌜ ((x : List ℕ) → (now (table .entry)) ≡ replicate 11280 0 ++ x →
         After (now (s .entry)) at total (fromHandler at (kids (now (s .entry)))) r x (now (table .exit))) ⌝ }
     ensures { λ _. ⌜ Kept (now (table .entry)) (now (table .exit)) ⌝ }
     ensures { λ r. ⌜ ((i e : ℕ) → r ≡ Is i e → Rowed (now (table .exit)) (now (rows .exit))) ⌝ }
+    ensures { λ _. ⌜ NamedOf (fromHandler at (kids (now (s .entry)))) (now (rows .exit)) ⌝ }
 {
     let h = spots[0];
     let hs = h.start;
@@ -376,12 +400,13 @@ fn read_children(
     rows: &mut [u32],
     total: u64,
 ) -> FileRead
-    requires { ⌜ (at + length (now s) ≤ 65536) × (11280 ≤ length (now table)) × (2304 ≤ length (now rows)) ×
+    requires { ⌜ (at + length (now s) ≤ 65536) × (11280 ≤ length (now table)) × (2816 ≤ length (now rows)) ×
         ((x : List ℕ) × (now table ≡ replicate 11280 0 ++ x)) ⌝ }
     ensures { λ r. ⌜ ((x : List ℕ) → (now (table .entry)) ≡ replicate 11280 0 ++ x →
         After (now (s .entry)) at total (contentsOf place at (now (s .entry))) r x (now (table .exit))) ⌝ }
     ensures { λ _. ⌜ Kept (now (table .entry)) (now (table .exit)) ⌝ }
     ensures { λ r. ⌜ ((i e : ℕ) → r ≡ Is i e → Rowed (now (table .exit)) (now (rows .exit))) ⌝ }
+    ensures { λ _. ⌜ NamedOf (contentsOf place at (now (s .entry))) (now (rows .exit)) ⌝ }
 {
     let f = boxes::walk_children(s, place, at);
     let a = f.answer;
@@ -409,12 +434,13 @@ fn read_meta(
     rows: &mut [u32],
     total: u64,
 ) -> FileRead
-    requires { ⌜ (at + length (now s) ≤ 65536) × (11280 ≤ length (now table)) × (2304 ≤ length (now rows)) ×
+    requires { ⌜ (at + length (now s) ≤ 65536) × (11280 ≤ length (now table)) × (2816 ≤ length (now rows)) ×
         ((x : List ℕ) × (now table ≡ replicate 11280 0 ++ x)) ⌝ }
     ensures { λ r. ⌜ ((x : List ℕ) → (now (table .entry)) ≡ replicate 11280 0 ++ x →
         After (drop 4 (now (s .entry))) (at + 4) total (fileOf place at (now (s .entry))) r x (now (table .exit))) ⌝ }
     ensures { λ _. ⌜ Kept (now (table .entry)) (now (table .exit)) ⌝ }
     ensures { λ r. ⌜ ((i e : ℕ) → r ≡ Is i e → Rowed (now (table .exit)) (now (rows .exit))) ⌝ }
+    ensures { λ _. ⌜ NamedOf (fileOf place at (now (s .entry))) (now (rows .exit)) ⌝ }
 {
     let v = contents::read_full(s, 0, 0, place as u64);
     match v {
@@ -429,10 +455,11 @@ fn read_meta(
 // The file into a table that is all 0.
 fn read_head(head: &[u8], total: u64, table: &mut [u32], rows: &mut [u32]) -> FileRead
     requires { ⌜ (length (now head) ≤ 65536) × (length (now head) ≤ total) × (11280 ≤ length (now table)) ×
-        (2304 ≤ length (now rows)) × ((x : List ℕ) × (now table ≡ replicate 11280 0 ++ x)) ⌝ }
+        (2816 ≤ length (now rows)) × ((x : List ℕ) × (now table ≡ replicate 11280 0 ++ x)) ⌝ }
     ensures { λ r. ⌜ ((x : List ℕ) → (now (table .entry)) ≡ replicate 11280 0 ++ x → ReadLeft total (now (head .entry)) r x (now (table .exit))) ⌝ }
     ensures { λ _. ⌜ Kept (now (table .entry)) (now (table .exit)) ⌝ }
     ensures { λ r. ⌜ ((i e : ℕ) → r ≡ Is i e → Rowed (now (table .exit)) (now (rows .exit))) ⌝ }
+    ensures { λ _. ⌜ NamedOf (readFile total (now (head .entry))) (now (rows .exit)) ⌝ }
 {
     let m = boxes::find_meta(head, total);
     match m {
@@ -449,13 +476,15 @@ fn read_head(head: &[u8], total: u64, table: &mut [u32], rows: &mut [u32]) -> Fi
 }
 
 // The whole reading. Refusal 1 writes nothing, the others leave the first 11,280 words 0. Where the file is read,
-// `rows` has for each target the row that it names, and from 2,048 on the rows in rising ID order; elsewhere nothing is
-// said of it.
+// `rows` has for each target the row that it names, from 2,048 on the rows in rising ID order, and from 2,304 on for each
+// extent of a method 2 item the row that it names, or more than 255; elsewhere nothing is said of it.
 pub fn read_file(head: &[u8], total: u64, table: &mut [u32], rows: &mut [u32]) -> FileRead
-    requires { ⌜ 2304 ≤ length (now rows) ⌝ }
+    requires { ⌜ 2816 ≤ length (now rows) ⌝ }
     ensures { λ r. ⌜ r ≡ readAnswer (length (now (table .entry))) total (now (head .entry)) ⌝ }
     ensures { λ _. ⌜ now (table .exit) ≡ readWords total (now (head .entry)) (now (table .entry)) ⌝ }
     ensures { λ r. ⌜ ((i e : ℕ) → r ≡ Is i e → Rowed (now (table .exit)) (now (rows .exit))) ⌝ }
+    ensures { λ _. ⌜ ((f : File) → 11280 ≤ length (now (table .entry)) → readFile total (now (head .entry)) ≡ ok f →
+        NamedIn f (now (rows .exit))) ⌝ }
 {
     if table.len() < Table::WORDS {
         return FileRead::Refused(Refusal {

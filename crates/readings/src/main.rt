@@ -25,7 +25,7 @@ fn sum_of(table: &[u32]) -> u64
 }
 
 fn print_answer(head: &[u8], total: u64, table: &mut [u32]) {
-    let mut rows = [0u32; 2304];
+    let mut rows = [0u32; 2816];
     let r = reading::read_file(head, total, table, &mut rows);
     match r {
         FileRead::Is {

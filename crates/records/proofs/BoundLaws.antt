@@ -33,7 +33,7 @@ read-bounds total head f e =
         few-extents = extents-few _ _ _ (s .in-iloc);
         few-properties = s .in-iprp .properties .few;
         few-associations = associations-few _ _ _ _ (s .in-iprp .associations);
-        few-targets = targets-few (idsOf (f .items)) (ofKind iref (k .boxes)) (f .derivations) (s .in-iref);
+        few-targets = targets-few (idsOf (f .items)) (ofKind iref (k .boxes)) _ (s .in-iref);
       },
       items-distinct _ _ (s .in-iinf),
     )

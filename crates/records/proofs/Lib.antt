@@ -7,3 +7,5 @@ pub mod IdLaws
 pub mod KeptLaws
 pub mod KeyedLaws
 pub mod BoundLaws
+pub mod NamedLaws
+pub mod PickLaws

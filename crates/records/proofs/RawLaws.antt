@@ -18,9 +18,9 @@ use Rattle.boxes.specs.Box.{kindOf, flat}
 use Rattle.contents.specs.Iinf.{Item, idsOf}
 use Rattle.contents.specs.Iloc.{Extent, Location, locatedIn, extentsIn}
 use Rattle.contents.specs.Ipma.{Association, IpmaEntry, associationsIn}
-use Rattle.contents.specs.Iref.{Derivation, derivedIn, targetsIn}
+use Rattle.contents.specs.Iref.{Reference, referringIn, targetsIn}
 use Rattle.contents.specs.File.{File}
-use Rattle.rules.specs.Joined.{derivedFrom, rowOf, noItem, itemAt}
+use Rattle.rules.specs.Joined.{referredFrom, rowOf, noItem, itemAt}
 use Rattle.rules.specs.Places.{Places}
 use Rattle.rules.specs.Words.{joinAll, region, propertiesFrom, associationWord}
 use Rattle.fields.proofs.TestLaws.{member-at}
@@ -101,7 +101,7 @@ named-length : (ns : List IpmaEntry) (y : ℕ) → length (namedWords ns y) ≡ 
 unfolding namedWords
 named-length ns y = refl
 
-derived-length : (ds : List Derivation) (y : ℕ) → length (derivedWords ds y) ≡ 2
+derived-length : (ds : List Reference) (y : ℕ) → length (derivedWords ds y) ≡ 2
 unfolding derivedWords
 derived-length ds y = refl
 
@@ -141,7 +141,7 @@ associations-length [] = refl
 associations-length (n ∷ ns) = rw (length-append, length-map, associations-length ns)
 
 -- targetRows
-pub targets-length : (ds : List Derivation) → length (targetRows ds) ≡ targetsIn ds
+pub targets-length : (ds : List Reference) → length (targetRows ds) ≡ targetsIn ds
 unfolding targetRows targetsIn joinAll
 targets-length [] = refl
 targets-length (d ∷ ds) = rw (length-append, targets-length ds)
@@ -359,7 +359,7 @@ module _ (f : File) (i : Item) where
       ap (λ (w : List ℕ). recordOf i w (derivedWords (f .derivations) (i .id)) (placeWords (f .locations) (i .id)))
       (sym (named-other (f .associations) n (i .id) h))
 
-  derived-row : (d : Derivation) → member (d .id) (derivedIn (f .derivations)) ≡ false → i .id ≡ d .id
+  derived-row : (d : Reference) → member (d .id) (referringIn (f .derivations)) ≡ false → i .id ≡ d .id
       → rowWords (addDerivation f d) i ≡ sets (rowWords f i) 5 (pick (eqb (length (d .targets)) 0) 0 (targetsIn (f .derivations)) ∷ length (d .targets) ∷ [])
   derived-row d new e =
       let a = namedWords (f .associations) (i .id) in
@@ -368,7 +368,7 @@ module _ (f : File) (i : Item) where
       ap (λ (w : List ℕ). recordOf i a w l) (ap (derivedWords (f .derivations ++ (d ∷ []))) e ∙ derived-last (f .derivations) d new)
       ∙ record-derived i a t l _ (named-length (f .associations) (i .id)) (derived-length (f .derivations) (i .id))
 
-  derived-apart : (d : Derivation) → (i .id ≡ d .id → ⊥) → rowWords f i ≡ rowWords (addDerivation f d) i
+  derived-apart : (d : Reference) → (i .id ≡ d .id → ⊥) → rowWords f i ≡ rowWords (addDerivation f d) i
   derived-apart d h =
       ap (λ (w : List ℕ). recordOf i (namedWords (f .associations) (i .id)) w (placeWords (f .locations) (i .id)))
       (sym (derived-other (f .derivations) d (i .id) h))
@@ -394,9 +394,9 @@ associations-snoc : (ns : List IpmaEntry) (n : IpmaEntry) → associationRows (n
 unfolding associationRows
 associations-snoc ns n = join-snoc (λ (m : IpmaEntry). map (λ (a : Association). associationWord a) (m .list)) ns n
 
-targets-snoc : (ds : List Derivation) (d : Derivation) → targetRows (ds ++ (d ∷ [])) ≡ targetRows ds ++ d .targets
+targets-snoc : (ds : List Reference) (d : Reference) → targetRows (ds ++ (d ∷ [])) ≡ targetRows ds ++ d .targets
 unfolding targetRows
-targets-snoc ds d = join-snoc (λ (e : Derivation). e .targets) ds d
+targets-snoc ds d = join-snoc (λ (e : Reference). e .targets) ds d
 
 extents-snoc : (pl : Places) (ls : List Location) (l : Location) → extentRows pl (ls ++ (l ∷ [])) ≡ extentRows pl ls ++
     joinAll (λ (e : Extent). extentRow pl l e) (l .extents)
@@ -438,7 +438,7 @@ module _ (hw : List ℕ) (pl : Places) (x : List ℕ) (small : length hw ≤ 16)
       (region-change f (addNamed f n) refl (n .id) 3 vs r ds h e (λ i q. named-row f i n new q) (λ i q. named-apart f i n q) (omega arith))
       (region-length 16 hw small) (records-fill pl f bd) (omega arith) (omega arith)
 
-  pub raw-derivation : (d : Derivation) → getD (idsOf (f .items)) r 0 ≡ d .id → member (d .id) (derivedIn (f .derivations)) ≡ false
+  pub raw-derivation : (d : Reference) → getD (idsOf (f .items)) r 0 ≡ d .id → member (d .id) (referringIn (f .derivations)) ≡ false
       → targetsIn (f .derivations) + length (d .targets) ≤ 2048
       → rawOf hw pl (addDerivation f d) ++ x
       ≡ sets
@@ -499,9 +499,9 @@ module _ (hw : List ℕ) (pl : Places) (x : List ℕ) (small : length hw ≤ 16)
       ap (λ (k : ℕ). getD (rawOf hw pl f ++ x) k 0) e ∙ raw-record r 0 h (omega arith) ∙ sym (id-at (f .items) r)
 
   pub raw-derived : (r : ℕ) → r < length (f .items) → getD (rawOf hw pl f ++ x) (16 + 16 * r + 6) 0 ≡ length
-      (derivedFrom (f .derivations) (getD (idsOf (f .items)) r 0))
+      (referredFrom (f .derivations) (getD (idsOf (f .items)) r 0))
   unfolding recordOf namedWords derivedWords
-  raw-derived r h = raw-record r 6 h (omega arith) ∙ ap (λ (y : ℕ). length (derivedFrom (f .derivations) y)) (sym (id-at (f .items) r))
+  raw-derived r h = raw-record r 6 h (omega arith) ∙ ap (λ (y : ℕ). length (referredFrom (f .derivations) y)) (sym (id-at (f .items) r))
 
   pub raw-located : (r : ℕ) → r < length (f .items) → getD (rawOf hw pl f ++ x) (16 + 16 * r + 11) 0 ≡ pick
       (member (getD (idsOf (f .items)) r 0) (locatedIn (f .locations))) 1 0

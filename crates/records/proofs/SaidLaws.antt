@@ -13,8 +13,8 @@ use Rattle.fields.specs.Lists.{member}
 use Rattle.fields.proofs.FieldLaws.{pick-yes, pick-no}
 use Rattle.contents.specs.Iloc.{Location, locatedIn, extentsIn}
 use Rattle.contents.specs.Ipma.{IpmaEntry, associationsIn}
-use Rattle.contents.specs.Iref.{Derivation, derivedIn, targetsIn}
-use Rattle.rules.specs.Joined.{locatedAt, namedFor, derivedFrom}
+use Rattle.contents.specs.Iref.{Reference, referringIn, targetsIn}
+use Rattle.rules.specs.Joined.{locatedAt, namedFor, referredFrom}
 use Rattle.rules.specs.Words.{Group, firstIn, totalOf, namedGroups, derivedGroups, locatedGroups}
 use Rattle.contents.proofs.SumLaws.{located-in}
 use Rattle.records.specs.inner.Raw.{namedWords, derivedWords, placeWords}
@@ -60,7 +60,7 @@ unfolding totalOf associationsIn
 named-total [] = refl
 named-total (n ∷ ns) = rw (named-total ns)
 
-pub derived-total : (ds : List Derivation) → totalOf (derivedGroups ds) ≡ targetsIn ds
+pub derived-total : (ds : List Reference) → totalOf (derivedGroups ds) ≡ targetsIn ds
 unfolding totalOf targetsIn
 derived-total [] = refl
 derived-total (d ∷ ds) = rw (derived-total ds)
@@ -95,30 +95,30 @@ unfolding namedWords
 named-other ns n x h =
     rw (named-for-other ns n x h, first-other (λ (m : IpmaEntry). m .id) (λ (m : IpmaEntry). length (m .list)) ns n 0 x h)
 
--- derivedFrom
-pub derived-from-last : (ds : List Derivation) (d : Derivation) → member (d .id) (derivedIn ds) ≡ false → derivedFrom (ds ++ (d ∷ [])) (d .id) ≡ d .targets
-unfolding derivedFrom
-derived-from-last ds d e = at-last (λ (m : Derivation). m .id) (λ (m : Derivation). m .targets) derivedFrom (λ a es x. refl) ds d e
+-- referredFrom
+pub derived-from-last : (ds : List Reference) (d : Reference) → member (d .id) (referringIn ds) ≡ false → referredFrom (ds ++ (d ∷ [])) (d .id) ≡ d .targets
+unfolding referredFrom
+derived-from-last ds d e = at-last (λ (m : Reference). m .id) (λ (m : Reference). m .targets) referredFrom (λ a es x. refl) ds d e
 
-pub derived-from-other : (ds : List Derivation) (d : Derivation) (x : ℕ) → (x ≡ d .id → ⊥) → derivedFrom (ds ++ (d ∷ [])) x ≡ derivedFrom ds x
-unfolding derivedFrom
-derived-from-other ds d x h = at-other (λ (m : Derivation). m .id) (λ (m : Derivation). m .targets) derivedFrom (λ a es x. refl) ds d x h
+pub derived-from-other : (ds : List Reference) (d : Reference) (x : ℕ) → (x ≡ d .id → ⊥) → referredFrom (ds ++ (d ∷ [])) x ≡ referredFrom ds x
+unfolding referredFrom
+derived-from-other ds d x h = at-other (λ (m : Reference). m .id) (λ (m : Reference). m .targets) referredFrom (λ a es x. refl) ds d x h
 
 -- derivedWords
 pub derived-none : (x : ℕ) → derivedWords [] x ≡ 0 ∷ 0 ∷ []
-unfolding derivedWords derivedFrom pick
+unfolding derivedWords referredFrom pick
 derived-none x = refl
 
-pub derived-last : (ds : List Derivation) (d : Derivation) → member (d .id) (derivedIn ds) ≡ false
+pub derived-last : (ds : List Reference) (d : Reference) → member (d .id) (referringIn ds) ≡ false
     → derivedWords (ds ++ (d ∷ [])) (d .id) ≡ pick (eqb (length (d .targets)) 0) 0 (targetsIn ds) ∷ length (d .targets) ∷ []
 unfolding derivedWords
 derived-last ds d e =
-    rw (derived-from-last ds d e, first-last (λ (m : Derivation). m .id) (λ (m : Derivation). length (m .targets)) ds d 0 e, zero-add, derived-total ds)
+    rw (derived-from-last ds d e, first-last (λ (m : Reference). m .id) (λ (m : Reference). length (m .targets)) ds d 0 e, zero-add, derived-total ds)
 
-pub derived-other : (ds : List Derivation) (d : Derivation) (x : ℕ) → (x ≡ d .id → ⊥) → derivedWords (ds ++ (d ∷ [])) x ≡ derivedWords ds x
+pub derived-other : (ds : List Reference) (d : Reference) (x : ℕ) → (x ≡ d .id → ⊥) → derivedWords (ds ++ (d ∷ [])) x ≡ derivedWords ds x
 unfolding derivedWords
 derived-other ds d x h =
-    rw (derived-from-other ds d x h, first-other (λ (m : Derivation). m .id) (λ (m : Derivation). length (m .targets)) ds d 0 x h)
+    rw (derived-from-other ds d x h, first-other (λ (m : Reference). m .id) (λ (m : Reference). length (m .targets)) ds d 0 x h)
 
 -- locatedAt
 pub located-last : (ls : List Location) (l : Location) → member (l .id) (locatedIn ls) ≡ false → locatedAt (ls ++ (l ∷ [])) (l .id) ≡ l

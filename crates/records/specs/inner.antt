@@ -2,3 +2,4 @@ pub mod Keys
 pub mod Raw
 pub mod Rows
 pub mod Stage
+pub mod Named

@@ -1,5 +1,7 @@
 pub mod TargetLaws
 pub mod ReferenceLaws
+pub mod NameLaws
+pub mod LinkLaws
 pub mod PutLaws
 pub mod RowedLaws
 pub mod StoredLaws

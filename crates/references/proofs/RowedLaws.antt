@@ -68,10 +68,17 @@ pub record Beside (n used : ℕ) (keep : Bool) (t v : List ℕ) (j : ℕ) (u x :
   pub long : length x ≡ length v
   pub other : keep ≡ false → x ≡ v
   pub rowed : keep ≡ true → RowedTo n used t v → RowedTo n (used + j) u x
+  pub above : (i : ℕ) → 2048 ≤ i → getD x i 0 ≡ getD v i 0
+
+-- a row that is kept stands below 2,048
+kept-above : (keep : Bool) (x : List ℕ) (k row i : ℕ) → (keep ≡ true → k < 2048) → 2048 ≤ i → getD (sets x k (pick keep (row ∷ []) [])) i 0 ≡ getD x i 0
+unfolding pick
+kept-above true x k row i h l = let m = h refl in sets-above (row ∷ []) x k i (omega arith)
+kept-above false x k row i h l = refl
 
 module _ (n used : ℕ) (keep : Bool) (t v : List ℕ) where
   pub beside-none : Beside n used keep t v 0 t v
-  beside-none = record { long = refl; other = λ e. refl; rowed = λ e r i h. r i (omega arith) }
+  beside-none = record { long = refl; other = λ e. refl; rowed = λ e r i h. r i (omega arith); above = λ i h. refl }
 
   module _ (j : ℕ) (u x : List ℕ) (so : Beside n used keep t v j u x) where
     pub beside-more : n ≤ 256 → 11280 ≤ length u → 2048 ≤ length v → (keep ≡ true → used + j < 2048) →
@@ -84,6 +91,7 @@ module _ (n used : ℕ) (keep : Bool) (t v : List ℕ) where
           long = ap length q ∙ length-sets x (used + j) (pick keep (row .0 ∷ []) []) ∙ so .long;
           other = λ y. q ∙ rw y (so .other y);
           rowed = λ y r. grown y (so .rowed y r);
+          above = λ i h. ap (λ (l : List ℕ). getD l i 0) q ∙ kept-above keep x (used + j) (row .0) i fits h ∙ so .above i h;
         }
       where
         grown : keep ≡ true → RowedTo n (used + j) u x → RowedTo n (used + (j + 1)) u′ x′
@@ -96,11 +104,14 @@ module _ (n used : ℕ) (keep : Bool) (t v : List ℕ) where
 
     -- what the code promises of the rows: a refusal promises nothing more than the other references
     pub beside-refused : (k : ℕ) (z : Refusal) → (keep ≡ false → x ≡ v) ×
-        (keep ≡ true → targets.Refused z ≡ targets.Done → RowedTo n used t v → RowedTo n (used + k) u x)
-    beside-refused k z = (so .other, λ y e. let no-way : _≡_ {A = ℕ} 0 1 = cc in absurd (omega arith))
+        (keep ≡ true → targets.Refused z ≡ targets.Done → RowedTo n used t v → RowedTo n (used + k) u x) ×
+        ((i : ℕ) → 2048 ≤ i → getD x i 0 ≡ getD v i 0)
+    beside-refused k z = (so .other, λ y e. let no-way : _≡_ {A = ℕ} 0 1 = cc in absurd (omega arith), so .above)
 
-    pub beside-done : (k : ℕ) → k ≤ j → (keep ≡ false → x ≡ v) × (keep ≡ true → targets.Done ≡ targets.Done → RowedTo n used t v → RowedTo n (used + k) u x)
-    beside-done k h = (so .other, λ y e r i l. so .rowed y r i (omega arith))
+    pub beside-done : (k : ℕ) → k ≤ j → (keep ≡ false → x ≡ v) ×
+        (keep ≡ true → targets.Done ≡ targets.Done → RowedTo n used t v → RowedTo n (used + k) u x) ×
+        ((i : ℕ) → 2048 ≤ i → getD x i 0 ≡ getD v i 0)
+    beside-done k h = (so .other, λ y e r i l. so .rowed y r i (omega arith), so .above)
 
 -- what the code promises of the rows after a reference, which has m targets behind it: nothing where it refuses
 pub no-targets : {P : Type 0} (z : Refusal) (m : ℕ) → read.Refused z ≡ read.Targets m → P
@@ -118,6 +129,11 @@ pub rowed-stored : (n used k row : ℕ) → n ≤ 256 → row < 256 → (t u w v
     w ≡ sets u (16 + 16 * row + 5) (used ∷ k ∷ []) → (RowedTo n used t v → RowedTo n (used + k) u x) → (m : ℕ) →
     read.Targets (used + k) ≡ read.Targets m → RowedTo n used t v → RowedTo n m w x
 rowed-stored n used k row few h t u w v x e f m i r = rowed-as n (used + k) m w x i (rowed-span n (used + k) few u x (f r) row used k h w e)
+
+-- an `iloc`: the table is the same, and so are the rows of the targets
+pub rowed-beside : (n used : ℕ) → used ≤ 2048 → (t u v x : List ℕ) → u ≡ t → ((i : ℕ) → i < 2048 → getD x i 0 ≡ getD v i 0) →
+    (m : ℕ) → read.Targets used ≡ read.Targets m → RowedTo n used t v → RowedTo n m u x
+rowed-beside n used few t u v x e q m i r = rowed-as n used m u x i (λ j h. let z = q j (omega arith) in rw (e, z) (r j h))
 
 -- what the loop over the references keeps of the rows, which were v
 pub record Rowing (n used : ℕ) (v u x : List ℕ) : Type 0 where

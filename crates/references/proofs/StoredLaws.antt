@@ -13,12 +13,12 @@ use Rattle.fields.specs.Choice.{pick}
 use Rattle.fields.specs.Lists.{member}
 use Rattle.fields.proofs.FieldLaws.{pick-no}
 use Rattle.contents.specs.Iinf.{idsOf}
-use Rattle.contents.specs.Iref.{Derivation, derivedIn, targetsIn}
+use Rattle.contents.specs.Iref.{Reference, IrefContent, referringIn, targetsIn, withDerivation}
 use Rattle.contents.specs.File.{File}
 use Rattle.rules.specs.Places.{Places}
 use Rattle.records.specs.inner.Raw.{Bounded, rawOf}
 use Rattle.records.specs.inner.Rows.{idAt, idsIn, Distinct}
-use Rattle.records.specs.inner.Stage.{Ready, withDerivations}
+use Rattle.records.specs.inner.Stage.{Ready, withReferences}
 use Rattle.records.proofs.MemberLaws.{member-last, member-other}
 use Rattle.records.proofs.RawLaws.{raw-id, raw-derivation}
 use Rattle.records.proofs.SetsLaws.{sets-below, sets-above, sets-in}
@@ -29,7 +29,7 @@ use Rattle.references.specs.inner.Steps.{Marked, Stored}
 pub sets-two : (t : List ℕ) (a b x y : ℕ) → a ≡ b → set (set t (a + 5) x) (a + 6) y ≡ sets t (b + 5) (x ∷ y ∷ [])
 sets-two t a b x y e = let z : b + 6 ≡ suc (b + 5) = omega arith in rw (e, z)
 
-module _ (n used : ℕ) (before : List Derivation) (d : Derivation) (t u : List ℕ) (few : n ≤ 256)
+module _ (n used : ℕ) (before : List Reference) (d : Reference) (t u : List ℕ) (few : n ≤ 256)
     (room : 11280 ≤ length t) (x : Stored n used before d t u) where
   abbrev targets-in : List ℕ
   targets-in = sets t (7184 + used) (d .targets)
@@ -65,10 +65,10 @@ module _ (n used : ℕ) (before : List Derivation) (d : Derivation) (t u : List 
   ]
 
   module _ (distinct : Distinct (idsIn t n)) (marked : Marked t n before) where
-    grown-in : derivedIn (before ++ (d ∷ [])) ≡ derivedIn before ++ (d .id ∷ [])
-    grown-in = map-append (λ (e : Derivation). e .id) before (d ∷ [])
+    grown-in : referringIn (before ++ (d ∷ [])) ≡ referringIn before ++ (d .id ∷ [])
+    grown-in = map-append (λ (e : Reference). e .id) before (d ∷ [])
 
-    mark-here : (k : ℕ) → k ≡ x .row → member (idAt u k) (derivedIn (before ++ (d ∷ []))) ≡ not (eqb (getD u (16 + 16 * k + 6) 0) 0)
+    mark-here : (k : ℕ) → k ≡ x .row → member (idAt u k) (referringIn (before ++ (d ∷ []))) ≡ not (eqb (getD u (16 + 16 * k + 6) 0) 0)
     mark-here k e =
         let s = x .some in
         rw (
@@ -77,13 +77,13 @@ module _ (n used : ℕ) (before : List Derivation) (d : Derivation) (t u : List 
           stored-ids (x .row) (x .listed) ∙ x .its-id,
           word-count,
           ne-eqb (length (d .targets)) 0 (omega arith),
-        ) (member-last (d .id) (derivedIn before))
+        ) (member-last (d .id) (referringIn before))
 
     mark-other : (k : ℕ) → k < n → (k ≡ x .row → ⊥) → getD u (16 + 16 * k + 6) 0 ≡ getD t (16 + 16 * k + 6) 0 →
-        member (idAt u k) (derivedIn (before ++ (d ∷ []))) ≡ not (eqb (getD u (16 + 16 * k + 6) 0) 0)
+        member (idAt u k) (referringIn (before ++ (d ∷ []))) ≡ not (eqb (getD u (16 + 16 * k + 6) 0) 0)
     mark-other k h apart e =
         rw (grown-in, stored-ids k h, e)
-        (member-other (idAt t k) (d .id) (derivedIn before) (λ q. apart
+        (member-other (idAt t k) (d .id) (referringIn before) (λ q. apart
         (distinct-rows t n distinct k (x .row) h (x .listed) (q ∙ sym (x .its-id)))) ∙ marked k h)
 
     pub stored-marked : Marked u n (before ++ (d ∷ []))
@@ -96,30 +96,31 @@ module _ (n used : ℕ) (before : List Derivation) (d : Derivation) (t u : List 
           ]
         ]
 
-  -- the table of a file
-  module _ (count : used ≡ targetsIn before) where
-    pub stored-raw : (pl : Places) (f : File) (y : List ℕ) → Ready f n → t ≡ rawOf [] pl (withDerivations f before) ++
-        y → u ≡ rawOf [] pl (withDerivations f (before ++ (d ∷ []))) ++ y
-    stored-raw pl f y r e =
-        let b = r .bounded in
-        let z = x .fits in
-        let l = x .listed in
-        let h : x .row < length (f .items) = omega (arith, r .count) in
-        let bounded : Bounded (withDerivations f before) =
-        record {
-          few-items = b .few-items;
-          few-extents = b .few-extents;
-          few-properties = b .few-properties;
-          few-associations = b .few-associations;
-          few-targets = omega arith;
-        } in
-        let i : getD (idsOf (f .items)) (x .row) 0 ≡ d .id =
-        sym (raw-id [] pl y (omega arith) (withDerivations f before) (x .row) h) ∙ ap (λ (v : List ℕ). idAt v (x .row)) (sym e) ∙ x .its-id in
-        let p : pick (eqb (length (d .targets)) 0) 0 (targetsIn before) ≡ targetsIn before =
-        pick-no 0 (targetsIn before) (ne-eqb (length (d .targets)) 0 (omega (arith, x .some))) in
-        let raw : List ℕ = rawOf [] pl (withDerivations f before) ++ y in
-        x .is
-        ∙ ap (λ (v : List ℕ). sets (sets v (7184 + used) (d .targets)) (16 + 16 * x .row + 5) (used ∷ length (d .targets) ∷ [])) e
-        ∙ ap (λ (k : ℕ). sets (sets raw (7184 + k) (d .targets)) (16 + 16 * x .row + 5) (k ∷ length (d .targets) ∷ [])) count
-        ∙ ap (λ (k : ℕ). sets (sets raw (7184 + targetsIn before) (d .targets)) (16 + 16 * x .row + 5) (k ∷ length (d .targets) ∷ [])) (sym p)
-        ∙ sym (raw-derivation [] pl y (omega arith) (withDerivations f before) bounded (x .row) (r .distinct) h d i (x .fresh) (omega arith))
+-- the table of a file
+module _ (n used : ℕ) (before : IrefContent) (d : Reference) (t u : List ℕ) (x : Stored n used (before .derivations) d t u)
+    (count : used ≡ targetsIn (before .derivations)) where
+  pub stored-raw : (pl : Places) (f : File) (y : List ℕ) → Ready f n → t ≡ rawOf [] pl (withReferences f before) ++
+      y → u ≡ rawOf [] pl (withReferences f (withDerivation before d)) ++ y
+  stored-raw pl f y r e =
+      let b = r .bounded in
+      let z = x .fits in
+      let l = x .listed in
+      let h : x .row < length (f .items) = omega (arith, r .count) in
+      let bounded : Bounded (withReferences f before) =
+      record {
+        few-items = b .few-items;
+        few-extents = b .few-extents;
+        few-properties = b .few-properties;
+        few-associations = b .few-associations;
+        few-targets = omega arith;
+      } in
+      let i : getD (idsOf (f .items)) (x .row) 0 ≡ d .id =
+      sym (raw-id [] pl y (omega arith) (withReferences f before) (x .row) h) ∙ ap (λ (v : List ℕ). idAt v (x .row)) (sym e) ∙ x .its-id in
+      let p : pick (eqb (length (d .targets)) 0) 0 (targetsIn (before .derivations)) ≡ targetsIn (before .derivations) =
+      pick-no 0 (targetsIn (before .derivations)) (ne-eqb (length (d .targets)) 0 (omega (arith, x .some))) in
+      let raw : List ℕ = rawOf [] pl (withReferences f before) ++ y in
+      x .is
+      ∙ ap (λ (v : List ℕ). sets (sets v (7184 + used) (d .targets)) (16 + 16 * x .row + 5) (used ∷ length (d .targets) ∷ [])) e
+      ∙ ap (λ (k : ℕ). sets (sets raw (7184 + k) (d .targets)) (16 + 16 * x .row + 5) (k ∷ length (d .targets) ∷ [])) count
+      ∙ ap (λ (k : ℕ). sets (sets raw (7184 + targetsIn (before .derivations)) (d .targets)) (16 + 16 * x .row + 5) (k ∷ length (d .targets) ∷ [])) (sym p)
+      ∙ sym (raw-derivation [] pl y (omega arith) (withReferences f before) bounded (x .row) (r .distinct) h d i (x .fresh) (omega arith))

@@ -1,11 +1,13 @@
 -- The targets of a reference, one at a time: what the loop over them uses. Assumes nothing.
-use Prim.Native.Nat.{ℕ, suc, _+_, _-_, _*_, _<_, _≤_}
+use Prim.Native.Nat.{ℕ, zero, suc, _+_, _-_, _*_, _<_, _≤_}
+use native.Mathlib.Decide.{decLe}
+use native.Mathlib.Nat.{mul-zero, mul-suc}
 use native.Mathlib.Omega.{arith}
 use mathlib.Core.Path.{_≡_, refl, sym, ap, _∙_, subst}
 use mathlib.Core.List.{List, [], _∷_, _++_}
 use mathlib.Core.Bool.{Bool, true, false}
-use lib.ListN.{length, drop, length-append}
-use lib.Seq.{sets, length-sets}
+use lib.ListN.{length, getD, drop, length-append, List·getD-append}
+use lib.Seq.{sets, length-sets, getD-at}
 use Rattle.fields.specs.Choice.{pick}
 use Rattle.fields.specs.Field.{beAt}
 use Rattle.fields.specs.Lists.{member}
@@ -38,6 +40,9 @@ use Rattle.records.proofs.KeptLaws.{kept-sets}
 use Rattle.references.specs.inner.Steps.{targetsFrom, toldTargets, TargetsLeft}
 use Rattle.references.specs.declared.TargetsPut.{TargetsPut}
 use Rattle.references.specs.declared.TargetsPut.the-variants as targets
+
+never-ok : {P : Type 0} (m q : ℕ) (ts : List ℕ) → refuse m q ≡ ok ts → P
+never-ok m q ts e = let z : _≡_ {A = ℕ} 0 1 = cc in absurd (omega arith)
 
 -- FoundIs, in a table whose IDs are those of t
 module _ (t u : List ℕ) (n : ℕ) (same : (k : ℕ) → k < n → idAt u k ≡ idAt t k) (id : ℕ) where
@@ -76,6 +81,78 @@ module _ (ids : List ℕ) (w p : ℕ) (s : List ℕ) where
 
     target-end : length s ≤ at → left 0 at ts ≡ ok ts
     target-end h = reads-none (target-form ids w) p (drop at s) (over p) ts ∙ over-end p ts s at h
+
+  -- the targets that were read are listed, and stand in s one after another
+  pub record ReadFrom (m at : ℕ) (before ts : List ℕ) : Type 0 where
+    pub inside : at + w * m ≤ length s
+    pub count : length ts ≡ length before + m
+    pub front : (j : ℕ) → j < length before → getD ts j 0 ≡ getD before j 0
+    pub target : (j : ℕ) → j < m → getD ts (length before + j) 0 ≡ beAt s (at + w * j) w
+    pub listed : (j : ℕ) → j < m → member (beAt s (at + w * j) w) ids ≡ true
+
+  left-read : (m at : ℕ) (before ts : List ℕ) → at ≤ length s → left m at before ≡ ok ts → ReadFrom m at before ts
+  left-read zero at before ts h e = ends (decLe (length s) at)
+    where
+      ends : Dec (length s ≤ at) → ReadFrom 0 at before ts
+      ends (yes l) =
+          let z : before ≡ ts = ok-inj _ _ (sym (target-end at before l) ∙ e) in
+          record {
+            inside = rw mul-zero (omega arith);
+            count = rw (← z) (omega arith);
+            front = λ j i. ap (λ (l : List ℕ). getD l j 0) (sym z);
+            target = λ j i. absurd (omega arith);
+            listed = λ j i. absurd (omega arith);
+          }
+      ends (no l) = never-ok 8 p ts (sym (target-left-over at before (omega (arith, l))) ∙ e)
+  left-read (suc m) at before ts h e =
+      room (decLe (at + w) (length s)) (left-read m (at + w) (before ++ (beAt s at w ∷ [])) ts)
+    where
+      next : List ℕ
+      next = before ++ (beAt s at w ∷ [])
+
+      here : w * zero ≡ 0
+      here = mul-zero w
+
+      there : (j : ℕ) → at + w * suc j ≡ at + w + w * j
+      there j = let z : w * suc j ≡ w * j + w = mul-suc w j in omega arith
+
+      its-target : (j : ℕ) → j < suc m → ReadFrom m (at + w) next ts → getD ts (length before + j) 0 ≡ beAt s (at + w * j) w
+      its-target zero i r =
+          let a : length before + 0 ≡ length before = omega arith in
+          let b : at + w * 0 ≡ at = omega (arith, here) in
+          rw (a, b) (r .front (length before) (rw length-append (omega arith)) ∙ getD-at before (beAt s at w) [] 0 (length before) refl)
+      its-target (suc j) i r =
+          let a : length before + suc j ≡ length next + j = rw length-append (omega arith) in
+          rw (a, there j) (r .target j (omega arith))
+
+      its-listed : (j : ℕ) → j < suc m → member (beAt s at w) ids ≡ true → ReadFrom m (at + w) next ts → member (beAt s (at + w * j) w) ids ≡ true
+      its-listed zero i y r = let b : at + w * 0 ≡ at = omega (arith, here) in rw b y
+      its-listed (suc j) i y r = rw (there j) (r .listed j (omega arith))
+
+      more : at + w ≤ length s → member (beAt s at w) ids ≡ true → ReadFrom m (at + w) next ts → ReadFrom (suc m) at before ts
+      more l y r = record {
+        inside = rw mul-suc (omega (arith, r .inside));
+        count = r .count ∙ rw length-append (omega arith);
+        front = λ j i. r .front j (rw length-append (omega arith)) ∙ List·getD-append before _ 0 j i;
+        target = λ j i. its-target j i r;
+        listed = λ j i. its-listed j i y r;
+      }
+
+      told : at + w ≤ length s → (t : Bool) → member (beAt s at w) ids ≡ t
+          → (at + w ≤ length s → left m (at + w) next ≡ ok ts → ReadFrom m (at + w) next ts) → ReadFrom (suc m) at before ts
+      told l true y r = more l y (r l (sym (target-listed m at before l y) ∙ e))
+      told l false y r = never-ok 11 p ts (sym (target-unlisted m at before l y) ∙ e)
+
+      room : Dec (at + w ≤ length s) → (at + w ≤ length s → left m (at + w) next ≡ ok ts → ReadFrom m (at + w) next ts)
+          → ReadFrom (suc m) at before ts
+      room (yes l) r = told l (member (beAt s at w) ids) refl r
+      room (no l) r = never-ok 8 p ts (sym (target-short m at before h (omega (arith, l))) ∙ e)
+
+-- the k targets of a reference, in its content s
+pub targets-read : (ids : List ℕ) (w k p : ℕ) (s : List ℕ) (from : ℕ) (ts : List ℕ) → from ≤ length s →
+    targetsFrom ids w k p s from ≡ ok ts → ReadFrom ids w p s k from [] ts
+targets-read ids w k p s from ts h e =
+    left-read ids w p s k from [] ts h (sym (whole-reads (many (target-form ids w) k []) p (drop from s)) ∙ e)
 
 -- the stores of kept targets
 kept-room : (keep : Bool) (ts : List ℕ) (used k : ℕ) → used ≤ 2048 → (keep ≡ true → used + k ≤ 2048) → length ts ≤ k →

@@ -4,3 +4,7 @@ pub mod SceneLaws
 pub mod ListedLaws
 pub mod SameSayLaws
 pub mod OrderLaws
+pub mod ChainLaws
+pub mod ByteLaws
+pub mod PlacedLaws
+pub mod ChainExamples

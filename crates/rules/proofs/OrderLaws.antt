@@ -21,7 +21,7 @@ use Rattle.boxes.specs.Types.{image}
 use Rattle.contents.specs.Iinf.{Item, idsOf}
 use Rattle.contents.specs.Iloc.{Extent, Location}
 use Rattle.contents.specs.Ipma.{Association, IpmaEntry}
-use Rattle.contents.specs.Iref.{Derivation}
+use Rattle.contents.specs.Iref.{Reference}
 use Rattle.contents.specs.Keeps.{ItemStep, Items}
 use Rattle.contents.specs.File.{File, readFile}
 use Rattle.contents.proofs.ReadLaws.{read-sound}
@@ -425,7 +425,7 @@ module _ (total : ℕ) (head : List ℕ) (f : File) (x : List ℕ) where
   tailWords =
       region 1024 (propertiesFrom (placesIn total head .properties) (f .properties))
       ++ (region 2048 (joinAll (λ (n : IpmaEntry). map (λ (a : Association). associationWord a) (n .list)) (f .associations))
-      ++ (region 2048 (joinAll (λ (d : Derivation). d .targets) (f .derivations))
+      ++ (region 2048 (joinAll (λ (d : Reference). d .targets) (f .derivations))
       ++ region 2048 (joinAll (λ (l : Location). joinAll (λ (e : Extent). extentWords (placesIn total head) l e) (l .extents)) (f .locations))))
 
   abbrev restWords : List ℕ → List ℕ
@@ -495,7 +495,7 @@ module _ (total : ℕ) (head : List ℕ) (f : File) (x : List ℕ) where
         arith,
         region-long 1024 (propertiesFrom (placesIn total head .properties) (f .properties)),
         region-long 2048 (joinAll (λ (n : IpmaEntry). map (λ (a : Association). associationWord a) (n .list)) (f .associations)),
-        region-long 2048 (joinAll (λ (d : Derivation). d .targets) (f .derivations)),
+        region-long 2048 (joinAll (λ (d : Reference). d .targets) (f .derivations)),
         region-long 2048 (joinAll (λ (l : Location). joinAll (λ (e : Extent). extentWords (placesIn total head) l e) (l .extents)) (f .locations)),
       ))
 

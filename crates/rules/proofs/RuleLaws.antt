@@ -13,7 +13,7 @@ use Rattle.contents.specs.File.{File, readFile}
 use Rattle.pictures.specs.Scene.{Scene}
 use Rattle.rules.specs.Joined.{noItem, itemAt}
 use Rattle.rules.specs.Derivations.{sceneOf}
-use Rattle.rules.specs.Rules.{inOrder, rule12, rule13-14, rule15-29-16, rule17, rule18, rule19, rule20, byDepth, judged}
+use Rattle.rules.specs.Rules.{inOrder, rule12, rule13-30-14, rule15-29-16, rule17, rule18, rule19, rule20, byDepth, judged}
 use Rattle.rules.specs.Opening.{accepted}
 
 -- inOrder: a rule that refuses nothing holds of each item, with its row
@@ -52,7 +52,7 @@ by-depth-each s is (suc n) d e (suc k) h =
 -- judged: each rule refuses no item
 pub record Judged (total : ℕ) (head : List ℕ) (f : File) : Type 0 where
   pub by-12 : rule12 f ≡ ok tt
-  pub by-13-14 : (i : ℕ) → i < length (f .items) → rule13-14 total head f (itemAt f i) ≡ ok tt
+  pub by-13-30-14 : (i : ℕ) → i < length (f .items) → rule13-30-14 total head f (itemAt f i) ≡ ok tt
   pub by-15-29-16 : (i : ℕ) → i < length (f .items) → rule15-29-16 f (itemAt f i) ≡ ok tt
   pub by-17 : (i : ℕ) → i < length (f .items) → rule17 total head f (itemAt f i) ≡ ok tt
   pub by-18 : (i : ℕ) → i < length (f .items) → rule18 (sceneOf total head f) i (itemAt f i) ≡ ok tt
@@ -70,7 +70,7 @@ judged-each total head f e =
     let x13 = then-ok _ _ tt (x15 .1) in
     record {
       by-12 = x13 .1;
-      by-13-14 = each (λ r i. rule13-14 total head f i) (x13 .2);
+      by-13-30-14 = each (λ r i. rule13-30-14 total head f i) (x13 .2);
       by-15-29-16 = each (λ r i. rule15-29-16 f i) (x15 .2);
       by-17 = each (λ r i. rule17 total head f i) (x17 .2);
       by-18 = each (rule18 (sceneOf total head f)) (x18 .2);

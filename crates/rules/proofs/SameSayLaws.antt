@@ -1,21 +1,37 @@
 -- Two files, each with its head, that say the same of every item show the same scene and are judged alike. Assumes nothing.
---   SameBody total head new f g i    the body of item i, by its location in f, is the same in both
+--   SameBody total head new f g i    the body of item i is the same in both
 --   Alike total head new f g         f with head and g with new say the same of every item
-use Prim.Native.Nat.{ℕ}
+use Prim.Native.Nat.{ℕ, zero, suc, _+_}
 use mathlib.Core.Path.{_≡_, refl, ap, _∙_}
 use mathlib.Core.List.{List, [], _∷_, map}
-use mathlib.Core.Bool.{Bool, true, false}
+use mathlib.Core.Bool.{Bool, true, false, _&&_, _||_, not}
 use lib.ListN.{length}
-use lib.Dec.{eqb}
+use lib.Dec.{leb, eqb}
 use Rattle.fields.specs.Choice.{pick}
 use Rattle.fields.specs.Lists.{All}
 use Rattle.fields.proofs.ListLaws.{map-by, all-of, all-more}
-use Rattle.boxes.specs.Answer.{Answer}
+use Rattle.boxes.specs.Answer.{Answer, ok, refuse}
 use Rattle.contents.specs.Iinf.{Item}
+use Rattle.contents.specs.Iloc.{Extent, Location}
 use Rattle.contents.specs.File.{File}
 use Rattle.pictures.specs.Scene.{Scene}
-use Rattle.rules.specs.Joined.{locationOf, associationsOf, boxesOf, targetsOf}
-use Rattle.rules.specs.Bytes.{Store, storeOf, bodyIn}
+use Rattle.rules.specs.Joined.{locatedAt, locationOf, associationsOf, boxesOf, targetsOf}
+use Rattle.rules.specs.Bytes.{
+  named,
+  ofNamed,
+  madeOfItems,
+  chained,
+  sumsPast,
+  namesPast,
+  Source,
+  known,
+  fileSource,
+  namedSource,
+  sourceOf,
+  byteOf,
+  within,
+  bodyOf,
+}
 use Rattle.rules.specs.Derivations as D
 use Rattle.rules.specs.Derivations.{allImages, recipeOf, pictureOf, sceneOf}
 use Rattle.rules.specs.Rules.{
@@ -23,7 +39,7 @@ use Rattle.rules.specs.Rules.{
   essentialKnown,
   configurations,
   rule12,
-  rule13-14,
+  rule13-30-14,
   rule15-29-16,
   rule17,
   rule18,
@@ -32,33 +48,87 @@ use Rattle.rules.specs.Rules.{
   judged,
 }
 use Rattle.rules.proofs.RuleLaws.{in-order-same}
+use Rattle.rules.proofs.ChainLaws.{all-same}
 
--- what 13 and 14 go by: locations and how long the stores are
-module _ (total : ℕ) (head new : List ℕ) (f g : File) (stored : length (g .idat) ≡ length (f .idat)) where
-  pub store-size : (m : ℕ) → storeOf total new g m .size ≡ storeOf total head f m .size
+-- what 13, 30 and 14 go by: locations, links, and how long the file's own sources are
+of-named-same : (t u : ℕ → Bool) → ((j : ℕ) → t j ≡ u j) → (a : Answer ℕ) → ofNamed t a ≡ ofNamed u a
+of-named-same t u h (ok j) = h j
+of-named-same t u h (refuse n p) = refl
+
+module _ (total : ℕ) (head new : List ℕ) (f g : File) (stored : length (g .idat) ≡ length (f .idat)) (e : g .locations ≡ f .locations)
+    (l : g .links ≡ f .links) where
+  located-same : (id : ℕ) → locationOf g id ≡ locationOf f id
+  located-same id = ap (λ (ls : List Location). locatedAt ls id) e
+
+  named-same : (id : ℕ) (x : Extent) → named g id x ≡ named f id x
+  unfolding named
+  named-same id x = rw l
+
+  -- a test of the item that an extent names
+  by-named-same : (t u : ℕ → Bool) → ((j : ℕ) → t j ≡ u j) → (id : ℕ) (x : Extent) → ofNamed t (named g id x) ≡ ofNamed u (named f id x)
+  by-named-same t u h id x = rw (named-same id x) (of-named-same t u h (named f id x))
+
+  pub chained-same : (n id : ℕ) → chained n g id ≡ chained n f id
+  unfolding chained
+  chained-same zero id = rw (located-same id)
+  chained-same (suc n) id =
+      rw (located-same id) (ap (λ (b : Bool). not (madeOfItems f id) || b)
+      (all-same _ _ (locationOf f id .extents) (by-named-same (λ j. chained n g j) (λ j. chained n f j) (chained-same n) id)))
+
+  pub past-same : (n id : ℕ) → namesPast n g id ≡ namesPast n f id
+  unfolding namesPast
+  past-same zero id = refl
+  past-same (suc n) id =
+      rw (located-same id) (ap (λ (b : Bool). madeOfItems f id && not b)
+      (all-same _ _ (locationOf f id .extents) (λ x. ap not
+      (by-named-same (λ j. sumsPast g j || namesPast n g j) (λ j. sumsPast f j || namesPast n f j) (λ j. rw (past-same n j, located-same j)) id x))))
+
+  named-size : (a : Answer ℕ) → namedSource total new g (byteOf total new g 8) a .size ≡ namedSource total head f (byteOf total head f 8) a .size
+  unfolding namedSource
+  named-size (ok j) = rw (located-same j)
+  named-size (refuse n p) = refl
+
+  file-size : (id : ℕ) → fileSource total new g id .size ≡ fileSource total head f id .size
   unfolding pick
-  store-size m = go (eqb m 1)
+  file-size id = rw (located-same id) (go (eqb (locationOf f id .method) 1))
     where
       go : (c : Bool) →
-          pick {A = Store} c (record { size = length (g .idat); known = g .idat }) (record { size = total; known = new }) .size
-          ≡ pick {A = Store} c (record { size = length (f .idat); known = f .idat }) (record { size = total; known = head }) .size
+          pick {A = Source} c (record { size = length (g .idat); byte = known (g .idat) }) (record { size = total; byte = known new }) .size
+          ≡ pick {A = Source} c (record { size = length (f .idat); byte = known (f .idat) }) (record { size = total; byte = known head }) .size
       go true = stored
       go false = refl
 
-  pub same-13-14 : g .locations ≡ f .locations → (i : Item) → rule13-14 total new g i ≡ rule13-14 total head f i
-  unfolding rule13-14
-  same-13-14 e i = rw (e, store-size (locationOf f (i .id) .method))
+  source-size : (id : ℕ) (x : Extent) →
+      sourceOf total new g (byteOf total new g 8) id x .size ≡ sourceOf total head f (byteOf total head f 8) id x .size
+  unfolding sourceOf pick
+  source-size id x =
+      rw (named-same id x)
+      (ap (λ (c : Bool). pick c (namedSource total new g (byteOf total new g 8) (named f id x)) (fileSource total new g id) .size)
+      (ap (λ (l : Location). eqb (l .method) 2) (located-same id)) ∙ go (madeOfItems f id))
+    where
+      go : (c : Bool) →
+          pick c (namedSource total new g (byteOf total new g 8) (named f id x)) (fileSource total new g id) .size
+          ≡ pick c (namedSource total head f (byteOf total head f 8) (named f id x)) (fileSource total head f id) .size
+      go true = named-size (named f id x)
+      go false = file-size id
+
+  within-same : (id : ℕ) → within total new g id ≡ within total head f id
+  within-same id =
+      rw (located-same id) (all-same _ _ (locationOf f id .extents) (λ x. ap (leb (locationOf f id .base + x .offset + x .size)) (source-size id x)))
+
+  pub same-13-30-14 : (i : Item) → rule13-30-14 total new g i ≡ rule13-30-14 total head f i
+  unfolding rule13-30-14
+  same-13-30-14 i = rw (chained-same 8 (i .id), past-same 8 (i .id), within-same (i .id), located-same (i .id))
 
 abbrev pub SameBody : ℕ → List ℕ → List ℕ → File → File → Item → Type 0
-SameBody total head new f g i =
-    bodyIn (storeOf total new g (locationOf f (i .id) .method)) (locationOf f (i .id))
-    ≡ bodyIn (storeOf total head f (locationOf f (i .id) .method)) (locationOf f (i .id))
+SameBody total head new f g i = bodyOf total new g (i .id) ≡ bodyOf total head f (i .id)
 
 pub record Alike (total : ℕ) (head new : List ℕ) (f g : File) : Type 0 where
   pub primary : g .primary ≡ f .primary
   pub items : g .items ≡ f .items
   pub locations : g .locations ≡ f .locations
   pub derivations : g .derivations ≡ f .derivations
+  pub links : g .links ≡ f .links
   pub stored : length (g .idat) ≡ length (f .idat)
   pub boxes : (id : ℕ) → boxesOf g id ≡ boxesOf f id
   pub known : (id : ℕ) → essentialKnown g (associationsOf g id) ≡ essentialKnown f (associationsOf f id)
@@ -74,7 +144,7 @@ module _ (total : ℕ) (head new : List ℕ) (f g : File) (k : Alike total head 
 
   pub recipe-same : (i : Item) → SameBody total head new f g i → recipeOf total new g i ≡ recipeOf total head f i
   unfolding D.recipeFor D.copyOf D.tilesOf D.layersOf
-  recipe-same i e = rw (images-same (targetsOf g (i .id)), k .derivations, k .locations, e)
+  recipe-same i e = rw (images-same (targetsOf g (i .id)), e, k .derivations, k .locations)
 
   pub picture-same : (i : Item) → SameBody total head new f g i → pictureOf total new g i ≡ pictureOf total head f i
   unfolding pictureOf
@@ -106,8 +176,8 @@ module _ (total : ℕ) (head new : List ℕ) (f g : File) (k : Alike total head 
   pub in-order : (p q : ℕ → Item → Answer (Unit {0})) → All (λ (i : Item). (r : ℕ) → p r i ≡ q r i) (f .items) → InOrder p q
   in-order p q a = ap (inOrder p 0) (k .items) ∙ in-order-same p q 0 (f .items) a
 
-  pub all-13-14 : InOrder (λ r i. rule13-14 total new g i) (λ r i. rule13-14 total head f i)
-  all-13-14 = in-order _ _ (all-of _ (λ i r. same-13-14 total head new f g (k .stored) (k .locations) i) (f .items))
+  pub all-13-30-14 : InOrder (λ r i. rule13-30-14 total new g i) (λ r i. rule13-30-14 total head f i)
+  all-13-30-14 = in-order _ _ (all-of _ (λ i r. same-13-30-14 total head new f g (k .stored) (k .locations) (k .links) i) (f .items))
 
   pub all-15-29-16 : InOrder (λ r i. rule15-29-16 g i) (λ r i. rule15-29-16 f i)
   all-15-29-16 = in-order _ _ (all-of _ (λ i r. same-15-29-16 i) (f .items))
@@ -129,4 +199,4 @@ module _ (total : ℕ) (head new : List ℕ) (f g : File) (k : Alike total head 
   -- judged
   pub judged-same : judged total new g ≡ judged total head f
   unfolding judged
-  judged-same = rw (same-12, all-13-14, all-15-29-16, all-17, all-18, all-19, all-20)
+  judged-same = rw (same-12, all-13-30-14, all-15-29-16, all-17, all-18, all-19, all-20)

@@ -20,7 +20,7 @@ use Rattle.pictures.specs.Decode.{ispeOf, turnsOf}
 use Rattle.pictures.specs.Recipe.{Recipe, Coded, Copy, Opaque, Tiles, Layers, Grid, Overlay, grid-form, iovl-form}
 use Rattle.pictures.specs.Scene.{Picture, Scene}
 use Rattle.rules.specs.Joined.{locationOf, targetsOf, boxesOf, rowOf, itemAt}
-use Rattle.rules.specs.Bytes.{storeOf, bodyIn}
+use Rattle.rules.specs.Bytes as Bytes
 
 abbrev pub nothingIn : {A : Type 0} → List A → Bool
 nothingIn [] = true
@@ -38,9 +38,9 @@ module _ (total : ℕ) (head : List ℕ) (f : File) (item : Item) where
   abbrev pub itsLocation : Location
   itsLocation = locationOf f (item .id)
 
-  -- "`grid`, `iovl`: one extent, wholly in the head, version 0, exact length"
+  -- "`grid`, `iovl`: .. version 0, exact length"; Q-7: "Derivation bodies may have several extents, joined, each byte in the head"
   abbrev pub itsBody : Answer (List ℕ)
-  itsBody = bodyIn (storeOf total head f (itsLocation .method)) itsLocation
+  itsBody = Bytes.bodyOf total head f (item .id)
 
   -- "`iden`: one input, no extents."
   unfoldable pub copyOf : Answer Recipe

@@ -1,5 +1,5 @@
 -- What a file says of one item, joined from its lists by the item's ID.
---   locationOf f id        where its bytes lie;   associationsOf, targetsOf    its associations and `dimg` targets
+--   locationOf f id        where its bytes lie;   associationsOf, targetsOf    its associations and `dimg` targets;   linksOf    its `iloc` targets
 --   propertyAt f k         the property box with index k; nothing for index 0
 --   boxesOf f id           the property boxes that it is associated with, in order;   typesOf    their types, 0 for index 0
 --   rowOf id items         its row in table order; the number of items where it is not listed
@@ -11,9 +11,9 @@ use lib.Dec.{eqb}
 use Rattle.fields.specs.Choice.{pick}
 use Rattle.boxes.specs.Box.{kindOf}
 use Rattle.contents.specs.Iinf.{Item}
-use Rattle.contents.specs.Iloc.{Location}
+use Rattle.contents.specs.Iloc.{Extent, Location}
 use Rattle.contents.specs.Ipma.{Association, IpmaEntry}
-use Rattle.contents.specs.Iref.{Derivation}
+use Rattle.contents.specs.Iref.{Reference}
 use Rattle.contents.specs.File.{File}
 
 -- "An item with no entry has method 0 and no extents."
@@ -31,16 +31,23 @@ namedFor (n ∷ ns) id = pick (eqb (n .id) id) (n .list) (namedFor ns id)
 abbrev pub associationsOf : File → ℕ → List Association
 associationsOf f id = namedFor (f .associations) id
 
--- what a list of associations holds behind its end
+-- what a list of extents holds behind its end, and one of associations
+abbrev pub noExtent : Extent
+noExtent = record { index = 0; offset = 0; size = 0 }
+
 abbrev pub noAssociation : Association
 noAssociation = record { essential = false; index = 0 }
 
-unfoldable pub derivedFrom : List Derivation → ℕ → List ℕ
-derivedFrom [] id = []
-derivedFrom (d ∷ ds) id = pick (eqb (d .id) id) (d .targets) (derivedFrom ds id)
+unfoldable pub referredFrom : List Reference → ℕ → List ℕ
+referredFrom [] id = []
+referredFrom (d ∷ ds) id = pick (eqb (d .id) id) (d .targets) (referredFrom ds id)
 
 abbrev pub targetsOf : File → ℕ → List ℕ
-targetsOf f id = derivedFrom (f .derivations) id
+targetsOf f id = referredFrom (f .derivations) id
+
+-- Q-7: "the item's `iloc` reference"
+abbrev pub linksOf : File → ℕ → List ℕ
+linksOf f id = referredFrom (f .links) id
 
 -- "Every box in `ipco` takes an index from 1"; "Index 0 names nothing"
 unfoldable pub propertyAt : File → ℕ → List ℕ

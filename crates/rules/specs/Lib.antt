@@ -1,7 +1,10 @@
 pub mod Joined
 pub mod Bytes
+pub mod Links
+pub mod Bodies
 pub mod Derivations
 pub mod Rules
 pub mod Places
 pub mod Words
 pub mod Opening
+pub mod inner

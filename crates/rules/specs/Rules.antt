@@ -1,7 +1,7 @@
--- Refusals 12 to 20 and 29: document 01, "Refusal numbers" and "Order of reading", on the file's structure. The place is an item's ID.
+-- Refusals 12 to 20, 29 and 30: document 01, "Refusal numbers" and "Order of reading", on the file's structure. The place is an item's ID.
 --   goodPrimary, .., each a test of one rule on one item;   rule12, .., the refusal by it
 --   inOrder rule items    the first refusal, in table order
---   judged total head f   12; 13 before 14 for each item; 15, 29, 16 for each image item; 17 for each item; 18; 19; 20 by rising depth
+--   judged total head f   12; 13, 30, 14 for each item; 15, 29, 16 for each image item; 17 for each item; 18; 19; 20 by rising depth
 use Prim.Native.Nat.{ℕ, zero, suc, _+_}
 use mathlib.Core.List.{List, [], _∷_}
 use mathlib.Core.Bool.{Bool, true, false, _&&_, _||_, not}
@@ -19,7 +19,7 @@ use Rattle.pictures.specs.Recipe.{Recipe}
 use Rattle.pictures.specs.Scene.{Picture, Scene, pictureAt, goodSizes}
 use Rattle.pictures.specs.Depth.{derivesItself, depth}
 use Rattle.rules.specs.Joined.{locationOf, associationsOf, propertyAt, typesOf, rowOf, itemAt}
-use Rattle.rules.specs.Bytes.{storeOf, goodMethod, goodLengths, within}
+use Rattle.rules.specs.Bytes.{goodMethod, goodLengths, chained, namesPast, within}
 use Rattle.rules.specs.Derivations.{nothingIn, recipeOf, sceneOf}
 
 -- a rule for each item in table order, which is the order of `iinf`, with its row
@@ -72,11 +72,12 @@ goodIspe ks = eqb (countOf ispe ks) 1 && ispeBefore ks
 unfoldable pub rule12 : File → Answer (Unit {0})
 rule12 f = check 12 (f .primary) (goodPrimary f)
 
--- "for each item in table order 13 before 14"
-unfoldable pub rule13-14 : ℕ → List ℕ → File → Item → Answer (Unit {0})
-rule13-14 total head f i =
+-- "for each item in table order 13 before 14"; Q-7: "30 .. between 13 and 14 for the item"
+unfoldable pub rule13-30-14 : ℕ → List ℕ → File → Item → Answer (Unit {0})
+rule13-30-14 total head f i =
     check 13 (i .id) (goodMethod (locationOf f (i .id)) && goodLengths (locationOf f (i .id)))
-    >> check 14 (i .id) (within (storeOf total head f (locationOf f (i .id) .method)) (locationOf f (i .id)) && hasBytes f i)
+    >> check 30 (i .id) (chained 8 f (i .id))
+    >> check 14 (i .id) (not (namesPast 8 f (i .id)) && (within total head f (i .id) && hasBytes f i))
 
 -- "then for each image item 15 before 16"; Q-5: "29, checked for each image item between 15 and 16"
 unfoldable pub rule15-29-16 : File → Item → Answer (Unit {0})
@@ -109,7 +110,7 @@ byDepth s is (suc n) d = inOrder (rule20 s d) 0 is >> byDepth s is n (suc d)
 unfoldable pub judged : ℕ → List ℕ → File → Answer (Unit {0})
 judged total head f =
     rule12 f
-    >> inOrder (λ r i. rule13-14 total head f i) 0 (f .items)
+    >> inOrder (λ r i. rule13-30-14 total head f i) 0 (f .items)
     >> inOrder (λ r i. rule15-29-16 f i) 0 (f .items)
     >> inOrder (λ r i. rule17 total head f i) 0 (f .items)
     >> inOrder (rule18 (sceneOf total head f)) 0 (f .items)

@@ -16,7 +16,7 @@ use Rattle.boxes.specs.Box.{kindOf}
 use Rattle.contents.specs.Iinf.{Item}
 use Rattle.contents.specs.Iloc.{Extent, Location}
 use Rattle.contents.specs.Ipma.{Association, IpmaEntry}
-use Rattle.contents.specs.Iref.{Derivation}
+use Rattle.contents.specs.Iref.{Reference}
 use Rattle.contents.specs.File.{File}
 use Rattle.pictures.specs.declared.Size.{Size}
 use Rattle.pictures.specs.Scene.{Picture, Scene, pictureAt, outputOf}
@@ -57,8 +57,8 @@ span id gs count = pick (eqb count 0) 0 (firstIn id 0 gs) ∷ count ∷ []
 abbrev pub namedGroups : List IpmaEntry → List Group
 namedGroups ns = map (λ (n : IpmaEntry). record { id = n .id; count = length (n .list) }) ns
 
-abbrev pub derivedGroups : List Derivation → List Group
-derivedGroups ds = map (λ (d : Derivation). record { id = d .id; count = length (d .targets) }) ds
+abbrev pub derivedGroups : List Reference → List Group
+derivedGroups ds = map (λ (d : Reference). record { id = d .id; count = length (d .targets) }) ds
 
 abbrev pub locatedGroups : List Location → List Group
 locatedGroups ls = map (λ (l : Location). record { id = l .id; count = length (l .extents) }) ls
@@ -143,7 +143,7 @@ wordsWith records total head f =
     ++ (region 4096 records
     ++ (region 1024 (propertiesFrom (placesIn total head .properties) (f .properties))
     ++ (region 2048 (joinAll (λ (n : IpmaEntry). map (λ (a : Association). associationWord a) (n .list)) (f .associations))
-    ++ (region 2048 (joinAll (λ (d : Derivation). d .targets) (f .derivations))
+    ++ (region 2048 (joinAll (λ (d : Reference). d .targets) (f .derivations))
     ++ region 2048 (joinAll (λ (l : Location). joinAll (λ (e : Extent). extentWords (placesIn total head) l e) (l .extents)) (f .locations))))))
 
 abbrev pub fileWords : ℕ → List ℕ → File → List ℕ

@@ -47,15 +47,17 @@ unfolding sheet ask pick beAt Answer._>>=_ Answer._>>_ Answer.check
     File.referred File.dataOf File.contentsOf File.fileOf File.readFile Full.full Hdlr.hdlr-form Pitm.pitm-form
     Iinf.infe-form Iinf.infe-step Iinf.iinf-count Iinf.items Iloc.extentsIn Iloc.extent-form Iloc.entry-form Iloc.iloc-form
     Ipco.ispe-form Ipco.bytes-form Ipco.good-content Ipco.property-step Ipma.associationsIn Ipma.association-form Ipma.ipma-entry-form Ipma.ipma-form
-    Iprp.pairOf Iprp.iprp-content Iref.targetsIn Iref.target-form Iref.reference-form Iref.reference Iref.references
+    Iprp.pairOf Iprp.iprp-content Iref.targetsIn Iref.target-form Iref.referringBy Iref.reference-form Iref.keptBy Iref.reference
+    Iref.references
     Turn.sizeAfter Turn.back Turn.sizeThrough Turn.undone signed Clap.halved Clap.placed Clap.edgeOf Clap.cropBy Clap.cropOf
     Decode.rotation Decode.mirror Decode.turnOf Decode.turnsOf Recipe.grid-form Recipe.offset-form Recipe.iovl-form
     Scene.outputOf Scene.allSize Scene.madeUp Scene.goodSizes Depth.reaches Depth.largest Depth.depthBy Depth.depthN
     Trace.tileAt Trace.layerAt Trace.sourceBy Trace.follow Trace.traced
-    Bytes.allExtents Bytes.bodyBy Joined.locatedAt Joined.namedFor Joined.derivedFrom Joined.propertyAt Joined.rowOf
+    Bytes.allExtents Bytes.named Bytes.chained Bytes.sizesOf Bytes.namesPast Bytes.known Bytes.byteIn Bytes.namedSource Bytes.sourceOf Bytes.byteOf
+    Bytes.bytesUpto Joined.locatedAt Joined.namedFor Joined.referredFrom Joined.propertyAt Joined.rowOf
     Derivations.allImages Derivations.copyOf Derivations.tilesOf Derivations.layersOf Derivations.recipeFor Derivations.asRule17
     Derivations.recipeOr Derivations.declaredIn Derivations.pictureOf
-    Rules.inOrder Rules.essentialKnown Rules.countOf Rules.ispeBefore Rules.rule12 Rules.rule13-14 Rules.rule15-29-16 Rules.rule17
+    Rules.inOrder Rules.essentialKnown Rules.countOf Rules.ispeBefore Rules.rule12 Rules.rule13-30-14 Rules.rule15-29-16 Rules.rule17
     Rules.rule18 Rules.rule19 Rules.rule20 Rules.byDepth Rules.judged
     Opening.accepted Opening.opened Opening.listed Opening.pictured
     Questions.verdictIn Questions.sizeIn Questions.foundBy Questions.traceIn Questions.verdict Questions.size Questions.trace

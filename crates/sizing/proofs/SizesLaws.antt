@@ -22,10 +22,10 @@ use Rattle.rules.proofs.SceneLaws.{inputs-at, recipe-ok, inputs-fed}
 use Rattle.rules.specs.Places.{Places}
 use Rattle.views.specs.inner.View.{TableOf, SizesAre, recordWord, idOf}
 use Rattle.views.proofs.LookupLaws.{row-listed}
-use Rattle.derived.specs.inner.Told.{derivationFor, toldDerivation}
+use Rattle.derived.specs.inner.Told.{Readable, derivationFor, toldDerivation}
 use Rattle.derived.specs.declared.Derivation.{Derivation}
 use Rattle.derived.specs.declared.Derivation.the-variants as made
-use Rattle.derived.proofs.RecipeLaws.{plain-recipe, derived-recipe}
+use Rattle.derived.proofs.RecipeLaws.{plain-recipe, derived-recipe, fed-body}
 use Rattle.fields.specs.Choice.{pick}
 use Rattle.fields.proofs.FieldLaws.{both}
 use Rattle.fields.proofs.ListLaws.{left-from, map-at}
@@ -154,13 +154,17 @@ module _ {t rows head : List ℕ} {total : ℕ} {f : File} (d : Drawn t rows hea
   pub input-size : (j : ℕ) → j < length targets → (k : ℕ) → k ≡ rowOf (getD targets j 0) (f .items) → (z : Size) →
       ((s : Scene) → SizesAre t s → k < length s → z ≡ outputOf (pictureAt s k)) →
       z ≡ outputOf (pictureAt s (getD (p .inputs) j 0))
-  input-size = scene-input-size total head f r i (d .view) (d .sizes)
+  input-size = scene-input-size total head f r i (d .followed .view) (d .sizes)
 
   module _ (h : r < length (f .items)) where
     pub made-plain : derived (itemAt f r .type) ≡ false → true ≡ madeUp s p (p .recipe)
     made-plain n =
         let k = recipe-ok total head f r i (d .fed r h) in
         made-underived s p _ ∙ ap (madeUp s p) (plain-recipe total head f (itemAt f r) n (k .0) (k .1) ∙ sym (k .2))
+
+    -- a derived item has a body
+    pub fed-known : derived (itemAt f r .type) ≡ true → Readable total head f (idOf f r)
+    fed-known kind = λ z. fed-body total head f (itemAt f r) kind (d .fed r h)
 
     -- the item is derived, and its derivation is read as x
     module _ (kind : derived (itemAt f r .type) ≡ true) (x : Derivation) (e : x ≡ toldDerivation (derivationFor total head f (itemAt f r))) where

@@ -84,6 +84,7 @@ module _ (t u : List ℕ) (k : ℕ) (small : k < 256) (long : length u ≡ lengt
         target = λ r j h l. behind-kept (7184 + (recordWord u r 5 + j)) (omega arith) ∙
             ap (λ (a : ℕ). getD t (7184 + (a + j)) 0) (front-kept r 5 (omega arith)) ∙ v .target r j h l;
         extent-room = λ r h. omega (arith, front-kept r 7 (omega arith), v .extent-room r h);
+        extent-first = λ r h l. front-kept r 7 (omega arith) ∙ v .extent-first r h l;
         extent-count = λ r h. front-kept r 8 (omega arith) ∙ v .extent-count r h;
         extent-size = λ r j h l. wide-kept (9232 + 4 * (recordWord u r 7 + j) + 2) (omega arith) ∙
             ap (λ (a : ℕ). wide t (9232 + 4 * (a + j) + 2)) (front-kept r 7 (omega arith)) ∙ v .extent-size r j h l;

@@ -271,7 +271,7 @@ fn is_as_derived(head: &[u8], table: &[u32], rows: &[u32], row: ItemRow) -> bool
         r ≡ madeUp (sceneOf total (now (head .entry)) f) (pictureAt (sceneOf total (now (head .entry)) f) (row .0))
         (pictureAt (sceneOf total (now (head .entry)) f) (row .0) .recipe)) ⌝ }
 {
-    let d = derived::derivation_of(head, table, row);
+    let d = derived::derivation_of(head, table, rows, row);
     match d {
         Derivation::Wrong => true,
         Derivation::Copy => is_same(

@@ -47,8 +47,8 @@ fn no_margins() -> Margins {
 }
 
 // A tile of a grid.
-fn tile_corner(head: &[u8], table: &[u32], row: ItemRow, k: u32, s: Size) -> Corner {
-    let g = pictures::read_grid(derived::body_of(head, table, row));
+fn tile_corner(head: &[u8], table: &[u32], rows: &[u32], row: ItemRow, k: u32, s: Size) -> Corner {
+    let g = derived::grid_of(head, table, rows, row);
     match g {
         GridRead::Wrong => Corner { x: ZERO, y: ZERO },
         GridRead::Is {
@@ -60,13 +60,10 @@ fn tile_corner(head: &[u8], table: &[u32], row: ItemRow, k: u32, s: Size) -> Cor
     }
 }
 
-// An input of an overlay.
-fn layer_corner(head: &[u8], table: &[u32], row: ItemRow, k: u32) -> Corner {
-    let n = derived::input_count(table, row);
-    if 2048 < n {
-        return Corner { x: ZERO, y: ZERO };
-    }
-    let b = derived::body_of(head, table, row);
+// An input of an overlay of n inputs, its body b in one piece.
+fn corner_in(b: &[u8], n: usize, k: u32) -> Corner
+    requires { ⌜ n ≤ 2048 ⌝ }
+{
     let o = pictures::read_overlay(b, n);
     match o {
         OverlayRead::Wrong => Corner { x: ZERO, y: ZERO },
@@ -78,6 +75,55 @@ fn layer_corner(head: &[u8], table: &[u32], row: ItemRow, k: u32) -> Corner {
     }
 }
 
+// The same of a body that is joined, in numbers of so many bytes. The body is copied from the length of k offsets on: the offset
+// stands there where that of the first input stands in the body.
+fn copied_corner(
+    head: &[u8],
+    table: &[u32],
+    rows: &[u32],
+    row: ItemRow,
+    bytes: usize,
+    k: u32,
+) -> Corner
+    requires { ⌜ bytes ≤ 4 ⌝ }
+{
+    let mut b = [0u8; 26];
+    let from = 2 * bytes * (k as usize);
+    joining::copy_bytes(head, table, rows, row, from, 10 + 4 * bytes, &mut b);
+    corners::offset_in(&b, bytes, 0)
+}
+
+fn joined_corner(head: &[u8], table: &[u32], rows: &[u32], row: ItemRow, n: usize, k: u32) -> Corner
+    requires { ⌜ n ≤ 2048 ⌝ }
+{
+    let o = derived::joined_overlay(head, table, rows, row, n);
+    match o {
+        OverlayRead::Wrong => Corner { x: ZERO, y: ZERO },
+        OverlayRead::Is {
+            wide: _,
+            high: _,
+            bytes,
+        } => {
+            if bytes == 2 {
+                return copied_corner(head, table, rows, row, 2, k);
+            }
+            copied_corner(head, table, rows, row, 4, k)
+        }
+    }
+}
+
+// An input of an overlay.
+fn layer_corner(head: &[u8], table: &[u32], rows: &[u32], row: ItemRow, k: u32) -> Corner {
+    let n = derived::input_count(table, row);
+    if 2048 < n {
+        return Corner { x: ZERO, y: ZERO };
+    }
+    if derived::is_joined(table, row) {
+        return joined_corner(head, table, rows, row, n, k);
+    }
+    corner_in(derived::body_of(head, table, row), n, k)
+}
+
 const IDEN: u32 = 0x6964656e;
 
 const GRID: u32 = 0x67726964;
@@ -85,10 +131,10 @@ const GRID: u32 = 0x67726964;
 const IOVL: u32 = 0x696f766c;
 
 // Where the input with a number from 0 lies, which has the output size s.
-fn corner_of(head: &[u8], table: &[u32], row: ItemRow, k: u32, s: Size) -> Corner {
+fn corner_of(head: &[u8], table: &[u32], rows: &[u32], row: ItemRow, k: u32, s: Size) -> Corner {
     match views::type_of(table, row) {
-        GRID => tile_corner(head, table, row, k, s),
-        IOVL => layer_corner(head, table, row, k),
+        GRID => tile_corner(head, table, rows, row, k, s),
+        IOVL => layer_corner(head, table, rows, row, k),
         _ => Corner { x: ZERO, y: ZERO },
     }
 }
@@ -193,9 +239,17 @@ fn lying_in(lying: Lying, part: Part, copied: bool) -> Lying {
 }
 
 // Where an input lies on its canvas, and what is seen of it.
-fn seen_at(head: &[u8], table: &[u32], row: ItemRow, k: u32, lying: Lying, s: Size) -> Seen {
+fn seen_at(
+    head: &[u8],
+    table: &[u32],
+    rows: &[u32],
+    row: ItemRow,
+    k: u32,
+    lying: Lying,
+    s: Size,
+) -> Seen {
     let part = lying.part;
-    let corner = corner_of(head, table, row, k, s);
+    let corner = corner_of(head, table, rows, row, k, s);
     corners::seen_of(
         part,
         sizing::declared_in(table, row),
@@ -205,8 +259,8 @@ fn seen_at(head: &[u8], table: &[u32], row: ItemRow, k: u32, lying: Lying, s: Si
     )
 }
 
-fn open_input(head: &[u8], table: &[u32], row: ItemRow, k: u32, s: Size) {
-    let corner = corner_of(head, table, row, k, s);
+fn open_input(head: &[u8], table: &[u32], rows: &[u32], row: ItemRow, k: u32, s: Size) {
+    let corner = corner_of(head, table, rows, row, k, s);
     canvas::open_input(corner.x, corner.y);
 }
 
@@ -226,11 +280,11 @@ fn put_kept(head: &[u8], table: &[u32], rows: &[u32], input: ItemRow, lying: Lyi
 fn tag_layer(head: &[u8], table: &[u32], rows: &[u32], row: ItemRow, k: u32, lying: Lying) {
     let input = derived::input_of(table, rows, row, k as usize);
     let s = sizing::output_in(table, input);
-    let seen = seen_at(head, table, row, k, lying, s);
+    let seen = seen_at(head, table, rows, row, k, lying, s);
     match seen {
         Seen::None => {}
         Seen::Is(part) => {
-            open_input(head, table, row, k, s);
+            open_input(head, table, rows, row, k, s);
             let within = lying_in(lying, part, false);
             canvas::put_under(s);
             put_kept(head, table, rows, input, within);
@@ -348,11 +402,11 @@ fn draw_input(
     let copied = views::type_of(table, row) == IDEN;
     let input = derived::input_of(table, rows, row, k as usize);
     let s = sizing::output_in(table, input);
-    let seen = seen_at(head, table, row, k, lying, s);
+    let seen = seen_at(head, table, rows, row, k, lying, s);
     match seen {
         Seen::None => layout::fewer(limit.left),
         Seen::Is(part) => {
-            open_input(head, table, row, k, s);
+            open_input(head, table, rows, row, k, s);
             if limit.down == 0 {
                 return shut(table, input, s);
             }
@@ -418,12 +472,10 @@ fn put_title(head: &[u8], table: &[u32], row: ItemRow) {
     put(b"</text>\n");
 }
 
-// The picture of the picture in a row of an accepted file's table, and over it a seam through these points, if there are any.
-pub fn draw_item(head: &[u8], table: &[u32], row: ItemRow, points: &[[u32; 9]]) {
-    let mut rows = [0u32; 2048];
-    derived::resolve(table, &mut rows);
+// The picture of the picture in a row of an accepted file's table, opened with its rows, and over it a seam through these points, if there are any.
+pub fn draw_item(head: &[u8], table: &[u32], rows: &[u32], row: ItemRow, points: &[[u32; 9]]) {
     let s = sizing::output_in(table, row);
-    let m = margins_of(head, table, &rows, 16, row);
+    let m = margins_of(head, table, rows, 16, row);
     let scale = canvas::scale_of(layout::uncut(s, m));
     canvas::open_page(1000);
     put_title(head, table, row);
@@ -439,7 +491,7 @@ pub fn draw_item(head: &[u8], table: &[u32], row: ItemRow, points: &[[u32; 9]]) 
         down: 16,
         left: 4096,
     };
-    let left = draw_output(head, table, &rows, limit, row, lying);
+    let left = draw_output(head, table, rows, limit, row, lying);
     stroke::put_seam(points, scale);
     canvas::close_picture(s, scale);
     stroke::put_names(points);

@@ -59,12 +59,12 @@ module _ {t rows head : List ℕ} {total : ℕ} {f : File} (w : Shown t rows hea
         eqb (getD marks c 0) 1 ≡ needs s (r .0) c) where
       pub sources-are : markedOf t marks n ≡ Sources.sources s (r .0)
       sources-are =
-          let k : n ≡ length (f .items) = counted ∙ w .view .items in
-          let i = inputs-are total head f t rows (placesIn total head) (w .view) (w .resolved) (w .fed) in
+          let k : n ≡ length (f .items) = counted ∙ w .followed .view .items in
+          let i = inputs-are total head f t rows (placesIn total head) (w .followed .view) (w .resolved) (w .fed) in
           let g = good-picture s (w .good) (rw (scene-long total head f) listed-row)
           (shaped-drawn _ _ (inputs-fed total head f (r .0) (picture-image f id (r .0) is-row)
           (w .fed (r .0) listed-row) .0)) in
-          rw k (marked-sources t marks head total (placesIn total head) f (r .0) (w .view) (w .fed)
+          rw k (marked-sources t marks head total (placesIn total head) f (r .0) (w .followed .view) (w .fed)
           (λ c h. needed s (scene-long total head f ∙ sym k) i (omega (arith, k, listed-row)) (g .shallow) c
           (omega (arith, k))))
 

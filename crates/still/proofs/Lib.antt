@@ -8,3 +8,4 @@ pub mod Again
 pub mod Share
 pub mod LentArray
 pub mod ArrangedLaws
+pub mod BodyLaws

@@ -12,7 +12,8 @@ use Rattle.rules.specs.Opening.{opened, fileAfter}
 use Rattle.questions.specs.Questions.{verdictIn, verdict, sizeIn, size}
 use Rattle.rules.proofs.RuleLaws.{judged-each, accepted-both}
 use Rattle.rules.proofs.SceneLaws.{accepted-scene}
-use Rattle.derived.specs.inner.Told.{Resolved}
+use Rattle.records.specs.inner.Named.{NamedIn}
+use Rattle.derived.specs.inner.Told.{Resolved, Followed}
 use Rattle.tracing.specs.inner.Told.{Shown}
 use Rattle.opening.specs.Told.{toldOpened}
 use Rattle.opening.specs.declared.Opened.the-variants as opens
@@ -44,17 +45,24 @@ module _ (total : ℕ) (head t : List ℕ) where
 
   -- its table shows all that a trace needs
   pub file-shown : total < 18446744073709551616 → (f : File) → opened (length t) total head ≡ ok f → (u : List ℕ) →
-      u ≡ fileAfter total head t → (rows : List ℕ) (n : ℕ) → length rows ≡ n → 2048 ≤ n →
-      (readFile total head ≡ ok f → Resolved u rows f) → Shown u rows head total f
+      u ≡ fileAfter total head t → (rows : List ℕ) (n : ℕ) → length rows ≡ n → 2816 ≤ n →
+      (readFile total head ≡ ok f → Resolved u rows f × NamedIn f rows) → Shown u rows head total f
   file-shown few f o u a rows n e many found =
       let k = file-accepted total head t few f o u a in
       let j = judged-each total head f (accepted-both total head f k .1) in
+      let read = file-read total head t few f o u a in
       record {
-        view = file-view total head t few f o u a;
+        followed =
+            record {
+              small = few;
+              read = read;
+              view = file-view total head t few f o u a;
+              placed = j .by-13-30-14;
+              many = omega (arith, e, many);
+              named = found read .1;
+            };
         sizes = file-sizes total head t few f o u a;
         good = accepted-scene total head f k;
-        placed = j .by-13-14;
         fed = j .by-17;
-        many = omega (arith, e, many);
-        resolved = found (file-read total head t few f o u a);
+        resolved = found read .0;
       }

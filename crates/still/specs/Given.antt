@@ -1,7 +1,7 @@
 -- What each public function promises, whole: for all heads, totals, tables, lists and numbers asked, the answer and
 -- every word that is left. The contracts cite these.
 --   VerdictGiven, SizeGiven, TraceGiven, SourcesGiven, OrientationGiven, AskedGiven, PropertyGiven, and TransformsGiven,
---   which reads no file;   PartPlaced, where a part that is returned lies;   PointsGiven, with all records
+--   which reads no file;   PartPlaced, where a part that is returned lies;   PointsGiven, with all records;   BodyGiven, with every byte of the buffer
 --   VerdictBy, .. by any layout of the table that is left: `left-by total head table`
 -- In each, r is what is returned, `left` the table afterwards, and `list` what was lent beside it, before and after,
 -- and `told` the two numbers that carry a refusal.
@@ -31,6 +31,9 @@ use Rattle.seam.specs.declared.PointRecord.{PointRecord}
 use Rattle.seam.specs.declared.PointsFilled.{PointsFilled}
 use Rattle.seam.specs.Points.{points, singleTrace, recordsAfter, toldPointsFilled}
 use Rattle.seam.specs.Numbers.{numbersAfter}
+use Rattle.bodied.specs.declared.Bodied.{Bodied}
+use Rattle.bodied.specs.Body.{body, bufferAfter, roomLeft}
+use Rattle.bodied.specs.Told.{toldBodied}
 use Rattle.still.specs.Told.{indexOf, toldPart, toldFault}
 
 -- The promises, by what a call leaves in the table. (Q-6 lays its records out anew: crates/demands/specs/Same.antt has both.)
@@ -73,6 +76,13 @@ module _ (left-by : ℕ → List ℕ → List ℕ → List ℕ) (head : List ℕ
       × ((records-left ≡ numbersAfter (points (length table) total head id (length records)) (Q.trace (length table) total head id) records)
       × (left ≡ left-by total head table))
 
+  -- `buffer`: before and after
+  abbrev pub BodyBy : ℕ → List ℕ → Bodied → List ℕ → List ℕ → Type 0
+  BodyBy id buffer r buffer-left left =
+      (r ≡ toldBodied (body (length table) (length buffer) total head id))
+      × ((buffer-left ≡ bufferAfter (body (length table) (length buffer) total head id) buffer)
+      × (left ≡ roomLeft left-by (length buffer) total head table))
+
 -- The promises of the functions.
 abbrev pub VerdictGiven : List ℕ → ℕ → List ℕ → FileVerdict → List ℕ → Type 0
 VerdictGiven = VerdictBy after
@@ -106,6 +116,9 @@ PointsGiven = PointsBy after
 
 abbrev pub PointNumbersGiven : List ℕ → ℕ → List ℕ → ℕ → List (List ℕ) → PointsFilled → List (List ℕ) → List ℕ → Type 0
 PointNumbersGiven = PointNumbersBy after
+
+abbrev pub BodyGiven : List ℕ → ℕ → List ℕ → ℕ → List ℕ → Bodied → List ℕ → List ℕ → Type 0
+BodyGiven = BodyBy after
 
 abbrev pub TransformsGiven : ℕ → TransformList → Type 0
 TransformsGiven n r = r ≡ toldTransforms (transformsIn n)

@@ -1,11 +1,15 @@
 // The public questions. Each call reads the file afresh; a table that was lent is the file's afterwards, or all 0 where
 // the file is refused. Each is thin: the file is opened (crate `opening`), then its table is asked (`asked`, `traced`,
-// `seam`, `sourced`, `facing`).
+// `seam`, `sourced`, `facing`, `bodied`).
 ghost use mathlib.Core.Path.{_≡_};
 ghost use mathlib.Core.Logic.{_⊎_};
-ghost use Prim.Native.Nat.{_≤_};
+ghost use mathlib.Core.List.{List};
+ghost use Prim.Native.Nat.{ℕ, _≤_, _<_};
 ghost use lib.ListN.{length};
-ghost use Rattle.rules.specs.Opening.{fileAfter};
+ghost use Rattle.rules.specs.Opening.{after, fileAfter};
+ghost use Rattle.bodied.specs.Body.{roomLeft};
+ghost use Rattle.bodied.specs.Body as Body;
+ghost use Rattle.bodied.specs.Told.{toldBodied};
 ghost use Rattle.seam.specs.Points as Points;
 ghost use Rattle.seam.specs.inner.Hand.{AtHand, countOf};
 ghost use Rattle.still.specs.Given.{
@@ -20,11 +24,14 @@ ghost use Rattle.still.specs.Given.{
   PartPlaced,
   PointsGiven,
   PointNumbersGiven,
+  BodyGiven,
 };
 ghost use Rattle.still.specs.inner.Read.{OrderGiven, AskedRead, PropertyRead};
 use asked::FileVerdict;
 use asked::PropertyAsked;
 use asked::Sized;
+use bodied::Bodied;
+use boxes::Refusal;
 use facing::Oriented;
 use facing::TransformList;
 use opening::Opened;
@@ -33,13 +40,14 @@ use seam::PointRecord;
 use seam::PointsFilled;
 use sourced::Listed;
 use table::ItemId;
+use table::Table;
 use traced::Traced;
 
 // Whether the file is accepted, with its item count and primary item ID.
 pub fn verdict(head: &[u8], total: u64, table: &mut [u32]) -> FileVerdict
     ensures { λ r. ⌜ VerdictGiven (now (head .entry)) total (now (table .entry)) r (now (table .exit)) ⌝ }
 {
-    let mut rows = [0u32; 2304];
+    let mut rows = [0u32; 2816];
     let o = opening::open_rows(head, total, &mut *table, &mut rows);
     let answer = match o {
         Opened::Refused(f) => FileVerdict::Refused(f),
@@ -53,7 +61,7 @@ pub fn verdict(head: &[u8], total: u64, table: &mut [u32]) -> FileVerdict
 pub fn size(head: &[u8], total: u64, table: &mut [u32], id: ItemId) -> Sized
     ensures { λ r. ⌜ SizeGiven (now (head .entry)) total (now (table .entry)) (id .0) r (now (table .exit)) ⌝ }
 {
-    let mut rows = [0u32; 2304];
+    let mut rows = [0u32; 2816];
     let o = opening::open_rows(head, total, &mut *table, &mut rows);
     let answer = match o {
         Opened::Refused(f) => Sized::Refused(f),
@@ -67,7 +75,7 @@ pub fn size(head: &[u8], total: u64, table: &mut [u32], id: ItemId) -> Sized
 pub fn trace(head: &[u8], total: u64, table: &mut [u32], id: ItemId, p: Point) -> Traced
     ensures { λ r. ⌜ TraceGiven (now (head .entry)) total (now (table .entry)) (id .0) p r (now (table .exit)) ⌝ }
 {
-    let mut rows = [0u32; 2304];
+    let mut rows = [0u32; 2816];
     let o = opening::open_rows(head, total, &mut *table, &mut rows);
     let answer = match o {
         Opened::Refused(f) => Traced::Refused(f),
@@ -88,7 +96,7 @@ pub fn point_numbers(
     ensures { λ r. ⌜ PointNumbersGiven (now (head .entry)) total (now (table .entry)) (id .0) (now (points .entry)) r
         (now (points .exit)) (now (table .exit)) ⌝ }
 {
-    let mut rows = [0u32; 2304];
+    let mut rows = [0u32; 2816];
     let o = opening::open_rows(head, total, &mut *table, &mut rows);
     let answer = match o {
         Opened::Refused(f) => PointsFilled::Refused(f),
@@ -102,7 +110,7 @@ pub fn point_numbers(
 pub fn sources(head: &[u8], total: u64, table: &mut [u32], id: ItemId, list: &mut [u32]) -> Listed
     ensures { λ r. ⌜ SourcesGiven (now (head .entry)) total (now (table .entry)) (id .0) (now (list .entry)) r (now (list .exit)) (now (table .exit)) ⌝ }
 {
-    let mut rows = [0u32; 2304];
+    let mut rows = [0u32; 2816];
     let o = opening::open_rows(head, total, &mut *table, &mut rows);
     let answer = match o {
         Opened::Refused(f) => Listed::Refused(f),
@@ -116,7 +124,7 @@ pub fn sources(head: &[u8], total: u64, table: &mut [u32], id: ItemId, list: &mu
 pub fn orientation(head: &[u8], total: u64, table: &mut [u32], id: ItemId) -> Oriented
     ensures { λ r. ⌜ OrientationGiven (now (head .entry)) total (now (table .entry)) (id .0) r (now (table .exit)) ⌝ }
 {
-    let mut rows = [0u32; 2304];
+    let mut rows = [0u32; 2816];
     let o = opening::open_rows(head, total, &mut *table, &mut rows);
     let answer = match o {
         Opened::Refused(f) => Oriented::Refused(f),
@@ -142,7 +150,7 @@ fn index_read(
     id: ItemId,
     k: u32,
 ) -> PropertyAsked
-    requires { ⌜ 2304 ≤ length (now rows) ⌝ }
+    requires { ⌜ 2816 ≤ length (now rows) ⌝ }
     ensures { λ r. ⌜ AskedRead (now (head .entry)) total (now (table .entry)) (id .0) k r (now (table .exit)) ⌝ }
     ensures { λ r. ⌜ OrderGiven (now (head .entry)) total (now (table .entry)) (now (rows .exit)) ⌝ }
 {
@@ -163,7 +171,7 @@ pub fn property_asked(
 ) -> PropertyAsked
     ensures { λ r. ⌜ AskedGiven (now (head .entry)) total (now (table .entry)) (id .0) k r (now (table .exit)) ⌝ }
 {
-    let mut rows = [0u32; 2304];
+    let mut rows = [0u32; 2816];
     let answer = index_read(head, total, &mut *table, &mut rows, id, k);
     arranged::arrange(table, &rows);
     answer
@@ -179,7 +187,7 @@ fn part_read<'a>(
     k: u32,
     told: &mut [u64; 2],
 ) -> &'a [u8]
-    requires { ⌜ 2304 ≤ length (now rows) ⌝ }
+    requires { ⌜ 2816 ≤ length (now rows) ⌝ }
     ensures { λ r. ⌜ PropertyRead (now (head .entry)) total (now (table .entry)) (id .0) k (now r) (now (told .exit))
         (now (table .exit)) ⌝ }
     ensures { λ r. ⌜ PartPlaced (now (head .entry)) total (now (table .entry)) (head .entry .ptr) (r .ptr) (id .0) k ⌝ }
@@ -212,7 +220,7 @@ pub fn property<'a>(
         (now (table .exit)) ⌝ }
     ensures { λ r. ⌜ PartPlaced (now (head .entry)) total (now (table .entry)) (head .entry .ptr) (r .ptr) (id .0) k ⌝ }
 {
-    let mut rows = [0u32; 2304];
+    let mut rows = [0u32; 2816];
     let part = part_read(head, total, &mut *table, &mut rows, id, k, told);
     arranged::arrange(table, &rows);
     part
@@ -227,7 +235,7 @@ fn ready(
     id: ItemId,
     n: usize,
 ) -> PointsFilled
-    requires { ⌜ 2304 ≤ length (now rows) ⌝ }
+    requires { ⌜ 2816 ≤ length (now rows) ⌝ }
     ensures { λ r. ⌜ (r ≡ Points.toldPointsFilled (Points.points (length (now (table .entry))) total (now (head .entry)) (id .0) n))
         × ((now (table .exit) ≡ fileAfter total (now (head .entry)) (now (table .entry)))
         × ((countOf r ≡ 0) ⊎ AtHand (now (head .entry)) total (now (table .exit)) (now (rows .exit)))) ⌝ }
@@ -250,10 +258,44 @@ pub fn points(
 ) -> PointsFilled
     ensures { λ r. ⌜ PointsGiven (now (head .entry)) total (now (table .entry)) (id .0) (now (points .entry)) r (now (points .exit)) (now (table .exit)) ⌝ }
 {
-    let mut rows = [0u32; 2304];
+    let mut rows = [0u32; 2816];
     let filled = ready(head, total, &mut *table, &mut rows, id, points.len());
     let n = seam::count_of(filled);
     seam::answer_all(head, total, &*table, &rows, id, n, points);
     arranged::arrange(table, &rows);
     filled
+}
+
+// 1, or 31: a buffer that is too short for some body.
+fn short_buffer(table: &mut [u32], id: ItemId) -> Bodied
+    ensures { λ r. ⌜ ((total : ℕ) (head : List ℕ) (room : ℕ) → room < 16402 →
+        (r ≡ toldBodied (Body.body (length (now (table .entry))) room total head (id .0))) ×
+        (now (table .exit) ≡ roomLeft after room total head (now (table .entry)))) ⌝ }
+{
+    if table.len() < Table::WORDS {
+        return Bodied::Refused(Refusal {
+            number: 1,
+            place: 0,
+        });
+    }
+    table::clear(table);
+    Bodied::Refused(asked::refusal(31, id))
+}
+
+// The joined body of an item into a lent buffer, first in it and the rest as before: its length, 0 for a coded item and `iden`.
+pub fn body(head: &[u8], total: u64, table: &mut [u32], id: ItemId, buffer: &mut [u8]) -> Bodied
+    ensures { λ r. ⌜ BodyGiven (now (head .entry)) total (now (table .entry)) (id .0) (now (buffer .entry)) r (now (buffer .exit))
+        (now (table .exit)) ⌝ }
+{
+    if buffer.len() < bodied::LONGEST {
+        return short_buffer(table, id);
+    }
+    let mut rows = [0u32; 2816];
+    let o = opening::open_rows(head, total, &mut *table, &mut rows);
+    let answer = match o {
+        Opened::Refused(f) => Bodied::Refused(f),
+        Opened::Accepted => bodied::body_in(head, &*table, &rows, id, buffer),
+    };
+    arranged::arrange(table, &rows);
+    answer
 }

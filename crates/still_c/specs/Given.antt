@@ -1,5 +1,5 @@
 -- What each export promises, whole: all that a call leaves, `out`, the list and the table, from what it was lent.
---   VerdictGiven, SizeGiven, TraceGiven, PointsGiven, SourcesGiven, PropertyGiven, OrientationGiven, TransformsGiven
+--   VerdictGiven, SizeGiven, TraceGiven, PointsGiven, SourcesGiven, PropertyGiven, OrientationGiven, TransformsGiven, BodyGiven
 --   VerdictBy, .. by any layout of the table that is left: `left-by total head table`
 use Prim.Native.Nat.{ℕ}
 use mathlib.Core.Path.{_≡_}
@@ -12,7 +12,8 @@ use Rattle.questions.specs.Questions as Q
 use Rattle.seam.specs.Points.{points}
 use Rattle.seam.specs.Numbers.{numbersAfter}
 use Rattle.facing.specs.Orientation.{orientation, transformsIn}
-use Rattle.out.specs.Out.{outVerdict, outSized, outTraced, outPoints, outListed, outPart, outOrientation, outTransforms}
+use Rattle.bodied.specs.Body.{body, bufferAfter, roomLeft}
+use Rattle.out.specs.Out.{outVerdict, outSized, outTraced, outPoints, outListed, outPart, outOrientation, outTransforms, outBodied}
 
 -- The promises, by what a call leaves in the table (crates/still/specs/Given.antt).
 module _ (left-by : ℕ → List ℕ → List ℕ → List ℕ) (head : List ℕ) (total : ℕ) (table : List ℕ) where
@@ -44,6 +45,13 @@ module _ (left-by : ℕ → List ℕ → List ℕ → List ℕ) (head : List ℕ
   abbrev pub OrientationBy : ℕ → List ℕ → List ℕ → Type 0
   OrientationBy item out left = (out ≡ outOrientation (orientation (length table) total head item)) × (left ≡ left-by total head table)
 
+  -- `buffer` and `written`: before and after
+  abbrev pub BodyBy : ℕ → List ℕ → List ℕ → List ℕ → List ℕ → Type 0
+  BodyBy item buffer out written left =
+      (out ≡ outBodied (body (length table) (length buffer) total head item))
+      × (written ≡ bufferAfter (body (length table) (length buffer) total head item) buffer)
+      × (left ≡ roomLeft left-by (length buffer) total head table)
+
 -- The promises of the exports.
 abbrev pub VerdictGiven : List ℕ → ℕ → List ℕ → List ℕ → List ℕ → Type 0
 VerdictGiven = VerdictBy after
@@ -65,6 +73,9 @@ PropertyGiven = PropertyBy after
 
 abbrev pub OrientationGiven : List ℕ → ℕ → List ℕ → ℕ → List ℕ → List ℕ → Type 0
 OrientationGiven = OrientationBy after
+
+abbrev pub BodyGiven : List ℕ → ℕ → List ℕ → ℕ → List ℕ → List ℕ → List ℕ → List ℕ → Type 0
+BodyGiven = BodyBy after
 
 abbrev pub TransformsGiven : ℕ → List ℕ → Type 0
 TransformsGiven n out = out ≡ outTransforms (transformsIn n)

@@ -17,6 +17,7 @@ ghost use Rattle.still_c.specs.Given.{
   PropertyGiven,
   OrientationGiven,
   TransformsGiven,
+  BodyGiven,
 };
 use asked::PropertyAsked;
 use pictures::Point;
@@ -147,4 +148,21 @@ pub extern "C" fn still_transforms(orientation: u32, out: &mut [u64; 8])
 {
     let l = still::transforms(orientation);
     *out = out::transforms_numbers(l);
+}
+
+// The joined body of an item, into `buffer`.
+#[no_mangle]
+pub extern "C" fn still_body(
+    head: &[u8],
+    total: u64,
+    table: &mut [u32],
+    item: u32,
+    buffer: &mut [u8],
+    out: &mut [u64; 8],
+)
+    ensures { λ _. ⌜ BodyGiven (now (head .entry)) total (now (table .entry)) item (now (buffer .entry)) (now (out .exit))
+        (now (buffer .exit)) (now (table .exit)) ⌝ }
+{
+    let b = still::body(head, total, table, ItemId(item), buffer);
+    *out = out::bodied_numbers(b);
 }

@@ -16,7 +16,6 @@ use Rattle.fields.proofs.TestLaws.{both-and, and-none}
 use Rattle.boxes.specs.Answer.{ok}
 use Rattle.boxes.specs.Types.{iden, grid, iovl, derived, image}
 use Rattle.forms.specs.Form.{whole}
-use Rattle.forms.proofs.WholeLaws.{whole-sound}
 use Rattle.contents.specs.Iinf.{Item}
 use Rattle.contents.specs.File.{File}
 use Rattle.pictures.specs.declared.Point.{Point}
@@ -27,21 +26,24 @@ use Rattle.pictures.specs.Scene.{Scene, pictureAt, outputOf}
 use Rattle.pictures.specs.Trace.{blank, input, onSide, alongSide, covers, layerAt, sourceBy, sourceOf}
 use Rattle.pictures.specs.Trace as Trace
 use Rattle.pictures.specs.inner.Told.{toldOverlay}
-use Rattle.pictures.proofs.RefusedLaws.{refused-ok}
-use Rattle.pictures.proofs.RecipeLaws.{iovl-offsets}
-use Rattle.pictures.proofs.OverlayLaws.{offsetAt, overlay-bytes, overlay-offset, told-overlay, told-no-overlay}
-use Rattle.rules.specs.Joined.{targetsOf, rowOf, itemAt}
+use Rattle.pictures.proofs.OverlayLaws.{offsetAt, overlay-bytes, told-overlay}
+use Rattle.boxes.proofs.AnswerLaws.{ok-inj}
+use Rattle.rules.specs.Joined.{targetsOf, rowOf, itemAt, locationOf}
+use Rattle.rules.specs.Bytes.{bodyOf}
+use Rattle.rules.specs.inner.Direct.{storeOf, bodyIn}
 use Rattle.rules.specs.Derivations.{layersOf, itsBody, sceneOf}
 use Rattle.rules.proofs.SceneLaws.{recipe-ok}
 use Rattle.views.specs.inner.View.{SizesAre, recordWord, idOf}
 use Rattle.views.proofs.LookupLaws.{row-listed}
 use Rattle.views.proofs.TableLaws.{row-small}
-use Rattle.derived.specs.inner.Told.{bodyOr}
+use Rattle.derived.specs.inner.Told.{isJoined, bodyOr}
 use Rattle.derived.proofs.InputLaws.{input-row}
+use Rattle.derived.proofs.BodyLaws.{direct-read}
+use Rattle.derived.proofs.RecipeLaws.{fed-body}
 use Rattle.sizing.proofs.SizesLaws.{scene-many, scene-inputs, scene-input}
 use Rattle.rules.proofs.DerivationLaws.{body-read}
 use Rattle.pictures.proofs.GridLaws.{two-or-four}
-use Rattle.tracing.specs.inner.Told.{Shown, toldSource}
+use Rattle.tracing.specs.inner.Told.{Shown, OffsetsIn, toldSource}
 use Rattle.tracing.specs.declared.Source.{Source}
 use Rattle.tracing.specs.declared.Source.the-variants as source
 use Rattle.tracing.proofs.SideLaws.{FarBy}
@@ -59,56 +61,58 @@ layer-last s (o ∷ os) [] k p b d h l = absurd (omega arith)
 layer-last s (o ∷ os) (i ∷ is) zero p b d h l = refl
 layer-last s (o ∷ os) (i ∷ is) (suc k) p b d h l = layer-last s os is k p _ d (omega arith) (omega arith)
 
--- where the offset of input k of n stands in a body of so many bytes, in numbers of w bytes
-pub record OffsetIn (w k long : ℕ) : Type 0 where
+-- where the offset of input k of n stands among their offsets, in numbers of w bytes
+pub record OffsetAmong (w k long : ℕ) : Type 0 where
   pub far : 2 * w * k ≤ 16384
-  pub room : 10 + 2 * w + 2 * w * k + 2 * w ≤ long
+  pub room : 2 * w * k + 2 * w ≤ long
 
-pub offset-in : (w k n long : ℕ) → (w ≡ 2) ⊎ (w ≡ 4) → k < n → n ≤ 2048 → long ≡ 10 + 2 * w + 2 * w * n → OffsetIn w k long
-offset-in w k n long (inl h) l few e =
+pub offset-among : (w k n long : ℕ) → (w ≡ 2) ⊎ (w ≡ 4) → k < n → n ≤ 2048 → 2 * w * n ≤ long → OffsetAmong w k long
+offset-among w k n long (inl h) l few e =
     let a : 2 * w * k ≡ 4 * k = rw h in
     let b : 2 * w * n ≡ 4 * n = rw h in
     record { far = omega arith; room = omega arith }
-offset-in w k n long (inr h) l few e =
+offset-among w k n long (inr h) l few e =
     let a : 2 * w * k ≡ 8 * k = rw h in
     let b : 2 * w * n ≡ 8 * n = rw h in
     record { far = omega arith; room = omega arith }
 
--- an overlay o of a scene, read from its body b in numbers of w bytes; the first n of a list of rows are its inputs
-module _ {t : List ℕ} {s : Scene} (v : SizesAre t s) (inputs b : List ℕ) (n w : ℕ) (room : n ≤ length inputs) (ew : w ≡ fieldBytes (beAt b 1 1))
-    (there : (k : ℕ) → k < n → getD inputs k 0 < length s) (o : Overlay) (e : whole (iovl-form n) 0 b ≡ ok o) (p : Point) where
-  offsets-many : length (o .offsets) ≡ n
-  offsets-many = iovl-offsets n b o (whole-sound (iovl-form n) 0 b o e)
+-- the offsets of n inputs in numbers of w bytes, and what else o has
+abbrev pub RoomFor : List ℕ → ℕ → ℕ → Type 0
+RoomFor o n w = ((w ≡ 2) ⊎ (w ≡ 4)) × (n ≤ 2048) × (2 * w * n ≤ length o)
 
-  abbrev Below : ℕ → Type 0
-  Below k = layerAt s (o .offsets) (take n inputs) p blank ≡ layerAt s (take k (o .offsets)) (take k inputs) p blank
+-- what lies on top of the first n inputs, whose offsets are os, lies on top of the first k of them
+abbrev pub Below : Scene → List Offset → List ℕ → ℕ → Point → ℕ → Type 0
+Below s os inputs n p k = layerAt s os (take n inputs) p blank ≡ layerAt s (take k os) (take k inputs) p blank
 
-  pub layers-all : Below n
-  layers-all = rw (take-all n (o .offsets) (omega (arith, offsets-many)))
+module _ (s : Scene) (os : List Offset) (inputs : List ℕ) (n : ℕ) (p : Point) where
+  pub layers-all : length os ≡ n → Below s os inputs n p n
+  layers-all many = rw (take-all n os (omega (arith, many)))
 
-  pub layers-none : (k : ℕ) → k ≡ 0 → Below k → source.Blank ≡ toldSource (layerAt s (o .offsets) (take n inputs) p blank)
+  pub layers-none : (k : ℕ) → k ≡ 0 → Below s os inputs n p k → source.Blank ≡ toldSource (layerAt s os (take n inputs) p blank)
   unfolding layerAt toldSource
-  layers-none k z inv = let e : layerAt s (take k (o .offsets)) (take k inputs) p blank ≡ blank = rw z in sym (ap toldSource (inv ∙ e))
+  layers-none k z inv = let e : layerAt s (take k os) (take k inputs) p blank ≡ blank = rw z in sym (ap toldSource (inv ∙ e))
 
+-- the first n of a list of rows are inputs of a scene; o spells their offsets os in numbers of w bytes
+module _ {t : List ℕ} {s : Scene} (v : SizesAre t s) (inputs o : List ℕ) (n w : ℕ) (room : n ≤ length inputs)
+    (there : (k : ℕ) → k < n → getD inputs k 0 < length s) (os : List Offset) (many : length os ≡ n) (spelled : OffsetsIn o w os) (p : Point) where
   -- input k
-  module _ (m k : ℕ) (down : m ≡ suc k) (h : k < n) (inv : Below m) where
+  module _ (m k : ℕ) (down : m ≡ suc k) (h : k < n) (inv : Below s os inputs n p m) where
     abbrev i : ℕ
     i = getD inputs k 0
 
     abbrev here : Offset
-    here = offsetAt b w (10 + 2 * w + 2 * w * k)
+    here = offsetAt o w (2 * w * k)
 
-    offset-here : getD (o .offsets) k here ≡ here
-    offset-here = rw ew (overlay-offset 0 b n o e k h
-        (offsetAt b (fieldBytes (beAt b 1 1)) (10 + 2 * fieldBytes (beAt b 1 1) + 2 * fieldBytes (beAt b 1 1) * k)))
+    offset-here : getD os k here ≡ here
+    offset-here = spelled k (omega (arith, many)) here
 
-    layers-next : layerAt s (o .offsets) (take n inputs) p blank ≡ pick (covers here (outputOf (pictureAt s i)) p)
+    layers-next : layerAt s os (take n inputs) p blank ≡ pick (covers here (outputOf (pictureAt s i)) p)
         (input i (point (alongSide (here .right) (p .x)) (alongSide (here .down) (p .y))))
-        (layerAt s (take k (o .offsets)) (take k inputs) p blank)
+        (layerAt s (take k os) (take k inputs) p blank)
     layers-next =
         inv
-        ∙ ap (λ (m : ℕ). layerAt s (take m (o .offsets)) (take m inputs) p blank) down
-        ∙ layer-last s (o .offsets) inputs k p blank here (omega (arith, offsets-many)) (omega arith)
+        ∙ ap (λ (m : ℕ). layerAt s (take m os) (take m inputs) p blank) down
+        ∙ layer-last s os inputs k p blank here (omega (arith, many)) (omega arith)
         ∙ rw offset-here
 
     pub input-there : 256 ≤ i → ⊥
@@ -122,7 +126,7 @@ module _ {t : List ℕ} {s : Scene} (v : SizesAre t s) (inputs b : List ℕ) (n 
       on-x : onSide (here .right) (p .x) (outputOf (pictureAt s i) .wide) ≡ ltb x (getD t (16 * i + 28) 0)
       on-x = rw (← wide-is) (fx .0)
 
-      pub layers-off-x : getD t (16 * i + 28) 0 ≤ x → Below k
+      pub layers-off-x : getD t (16 * i + 28) 0 ≤ x → Below s os inputs n p k
       layers-off-x l = layers-next ∙ pick-no _ _ (rw (on-x, le-ltb x _ l))
 
       module _ (y : ℕ) (fy : FarBy (here .down) (p .y) (getD t (16 * i + 28 + 1) 0) y) where
@@ -132,55 +136,51 @@ module _ {t : List ℕ} {s : Scene} (v : SizesAre t s) (inputs b : List ℕ) (n 
         on-y : onSide (here .down) (p .y) (outputOf (pictureAt s i) .high) ≡ ltb y (getD t (16 * i + 28 + 1) 0)
         on-y = rw (← high-is) (fy .0)
 
-        pub layers-off-y : getD t (16 * i + 28 + 1) 0 ≤ y → Below k
+        pub layers-off-y : getD t (16 * i + 28 + 1) 0 ≤ y → Below s os inputs n p k
         layers-off-y l = layers-next ∙ pick-no _ _
             (and-none (onSide (here .right) (p .x) (outputOf (pictureAt s i) .wide)) _ (on-y ∙ le-ltb y _ l))
 
         pub layers-on : x < getD t (16 * i + 28) 0 → y < getD t (16 * i + 28 + 1) 0 →
-            source.Input (record { 0 = i }) (point x y) ≡ toldSource (layerAt s (o .offsets) (take n inputs) p blank)
+            source.Input (record { 0 = i }) (point x y) ≡ toldSource (layerAt s os (take n inputs) p blank)
         unfolding toldSource
         layers-on lx ly =
             let z : point (alongSide (here .right) (p .x)) (alongSide (here .down) (p .y)) ≡ point x y = rw (fx .1 lx, fy .1 ly) in
             let c = both-and _ _ (on-x ∙ lt-ltb x _ lx) (on-y ∙ lt-ltb y _ ly) in
             sym (ap toldSource (layers-next ∙ pick-yes _ _ c ∙ ap (input i) z))
 
--- what a body of an overlay of n inputs is known by, in numbers of w bytes
-abbrev pub Body : List ℕ → ℕ → ℕ → Type 0
-Body b n w = ((w ≡ 2) ⊎ (w ≡ 4)) × (n ≤ 2048) × (length b ≡ 10 + 2 * w + 2 * w * n) × (w ≡ fieldBytes (beAt b 1 1))
-
--- a list of rows from `first` on
+-- a list from `first` on
 module _ (rows : List ℕ) (first : ℕ) where
-  abbrev rest : List ℕ
+  abbrev pub rest : List ℕ
   rest = take (length rows - first) (drop first rows)
 
-  rest-is : rest ≡ drop first rows
+  pub rest-is : rest ≡ drop first rows
   rest-is = take-all (length rows - first) (drop first rows) (rw length-drop (omega arith))
 
-  pub rest-long : (n : ℕ) → first + n ≤ 2048 → 2048 ≤ length rows → n ≤ length rest
-  rest-long n l m = rw (rest-is, length-drop) (omega arith)
+  pub rest-long : (n : ℕ) → first + n ≤ length rows → n ≤ length rest
+  rest-long n l = rw (rest-is, length-drop) (omega arith)
 
 -- Shown: an overlay in row r, its inputs being named from `first` on
 module _ {t rows head : List ℕ} {total : ℕ} {f : File} (v : Shown t rows head total f) (r : ℕ) (h : r < length (f .items))
     (n : ℕ) (c : n ≡ length (targetsOf f (idOf f r))) (first : ℕ) (ef : r < 256 → first ≡ recordWord t r 5) where
   pub inputs-inside : first + n ≤ 2048
-  inputs-inside = omega (arith, ef (row-small (v .view) r h), v .view .target-room r h, v .view .bounded .few-targets)
+  inputs-inside = omega (arith, ef (row-small (v .followed .view) r h), v .followed .view .target-room r h, v .followed .view .bounded .few-targets)
 
   row-said : (k : ℕ) → k < n → getD (rest rows first) k 0 ≡ rowOf (getD (targetsOf f (idOf f r)) k 0) (f .items)
-  row-said k l = input-row (v .view) r h rows (v .resolved) k (omega arith) first _ ef
+  row-said k l = input-row (v .followed .view) r h rows (v .resolved) k (omega arith) first _ ef
       (ap (λ (x : List ℕ). getD x k 0) (rest-is rows first) ∙ getD-drop first rows k 0)
 
   row-there : (k : ℕ) → k < n → getD (rest rows first) k 0 < length (sceneOf total head f)
   row-there k l = omega (
     arith,
     row-said k l,
-    row-listed (f .items) (getD (targetsOf f (idOf f r)) k 0) (v .view .sound .listed (idOf f r) k (omega arith)),
+    row-listed (f .items) (getD (targetsOf f (idOf f r)) k 0) (v .followed .view .sound .listed (idOf f r) k (omega arith)),
     scene-many total head f,
   )
 
   module _ (i : image (itemAt f r .type) ≡ true) where
     rows-are : take n (rest rows first) ≡ pictureAt (sceneOf total head f) r .inputs
     rows-are =
-        let l = length-take-le n (rest rows first) (rest-long rows first n inputs-inside (v .many)) in
+        let l = length-take-le n (rest rows first) (rest-long rows first n (omega (arith, inputs-inside, v .followed .many))) in
         ext-getD 0 (take n (rest rows first)) (pictureAt (sceneOf total head f) r .inputs) (omega (arith, l, scene-inputs total head f r i))
         (λ k b. getD-take n (rest rows first) k 0 (omega arith) ∙ row-said k (omega arith) ∙ sym (scene-input total head f r i k (omega arith)))
 
@@ -192,41 +192,51 @@ module _ {t rows head : List ℕ} {total : ℕ} {f : File} (v : Shown t rows hea
         g (sceneOf total head f) (v .sizes) row-there ∙
         ap (λ (is : List ℕ). toldSource (layerAt (sceneOf total head f) (o .offsets) is p blank)) rows-are
 
--- what read_overlay says of the body
-pub overlay-read : (b : List ℕ) (n w h k : ℕ) → n ≤ 2048 → layers.Is w h k ≡ toldOverlay b (whole (iovl-form n) 0 b) → Body b n k
-overlay-read b n w h k few e =
+-- what read_overlay says of the body of an overlay of n inputs, in numbers of w bytes
+abbrev pub Body : List ℕ → ℕ → ℕ → Type 0
+Body b n w = ((w ≡ 2) ⊎ (w ≡ 4)) × (length b ≡ 10 + 2 * w + 2 * w * n) × (w ≡ fieldBytes (beAt b 1 1))
+
+pub overlay-read : (b : List ℕ) (n w h k : ℕ) → layers.Is w h k ≡ toldOverlay b (whole (iovl-form n) 0 b) → Body b n k
+overlay-read b n w h k e =
     let o = told-overlay b _ w h k (sym e) in
     let x = overlay-bytes 0 b n (o .overlay) (o .is) in
-    subst (Body b n) (o .bytes) (two-or-four (beAt b 1 1), few, x .0, refl)
+    subst (Body b n) (o .bytes) (two-or-four (beAt b 1 1), x .0, refl)
 
 -- layersOf
-module _ (total : ℕ) (head : List ℕ) (f : File) (item : Item) (r : Recipe) where
+module _ (total : ℕ) (head : List ℕ) (f : File) (item : Item) (r : Recipe) (b : List ℕ) (body : itsBody total head f item ≡ ok b) where
   layers-read : layersOf total head f item ≡ ok r → (o : Overlay) ×
-      (whole (iovl-form (length (targetsOf f (item .id)))) 0 (bodyOr (itsBody total head f item)) ≡ ok o) ×
-      (r ≡ Layers o)
-  unfolding layersOf bodyOr
+      (whole (iovl-form (length (targetsOf f (item .id)))) 0 b ≡ ok o) × (r ≡ Layers o)
+  unfolding layersOf
   layers-read m =
       let x = body-read _ _ 17 _ _ Layers r m in
-      let e : bodyOr (itsBody total head f item) ≡ x .0 = ap bodyOr (x .1) in
-      (x .2, rw e (x .3), sym (x .5))
+      let e : x .0 ≡ b = ok-inj (x .0) b (sym (x .1) ∙ body) in
+      (x .2, rw (← e) (x .3), sym (x .5))
 
--- Shown: an `iovl` item whose body is b, of n inputs
+-- Shown: an `iovl` item of n inputs
 module _ {t rows head : List ℕ} {total : ℕ} {f : File} (v : Shown t rows head total f) (r : ℕ) (h : r < length (f .items))
-    (e : itemAt f r .type ≡ iovl) (b : List ℕ) (body : b ≡ bodyOr (itsBody total head f (itemAt f r))) (n : ℕ)
-    (c : n ≡ length (targetsOf f (idOf f r))) where
-  layers-kept : (o : Overlay) × (whole (iovl-form n) 0 b ≡ ok o) × (pictureAt (sceneOf total head f) r .recipe ≡ Layers o)
-  layers-kept =
+    (e : itemAt f r .type ≡ iovl) (n : ℕ) (c : n ≡ length (targetsOf f (idOf f r))) where
+  -- it has a body
+  layers-body : (b : List ℕ) × (bodyOf total head f (idOf f r) ≡ ok b)
+  layers-body = fed-body total head f (itemAt f r) (ap derived e) (v .fed r h)
+
+  layers-kept : (b : List ℕ) → bodyOf total head f (idOf f r) ≡ ok b →
+      (o : Overlay) × (whole (iovl-form n) 0 b ≡ ok o) × (pictureAt (sceneOf total head f) r .recipe ≡ Layers o)
+  layers-kept b body =
       let x = recipe-ok total head f r (ap image e) (v .fed r h) in
       let m = derived-by total head f (itemAt f r) (x .0) (x .1) (ap derived e) in
       let l = sym (pick-no _ _ (ap (λ (k : ℕ). eqb k iden) e) ∙ pick-no _ _ (ap (λ (k : ℕ). eqb k grid) e)) ∙ m in
-      rw (body, c, x .2) (layers-read total head f (itemAt f r) (x .0) l)
+      rw (c, x .2) (layers-read total head f (itemAt f r) (x .0) b body l)
 
-  pub layers-never : {A : Type 0} → layers.Wrong ≡ toldOverlay b (whole (iovl-form n) 0 b) → A
-  layers-never w = let x = layers-kept in absurd (refused-ok _ (x .0) (told-no-overlay b _ (sym w)) (x .1))
-
-  pub layers-source : (p : Point) (x : Source) → ((o : Overlay) → whole (iovl-form n) 0 b ≡ ok o →
-      n ≡ length (targetsOf f (idOf f r)) → x ≡ toldSource
+  pub layers-source : (p : Point) (x : Source) → ((b : List ℕ) → bodyOf total head f (idOf f r) ≡ ok b → (o : Overlay) →
+      whole (iovl-form n) 0 b ≡ ok o → x ≡ toldSource
       (layerAt (sceneOf total head f) (o .offsets) (pictureAt (sceneOf total head f) r .inputs) p blank)) →
       x ≡ toldSource (sourceOf (sceneOf total head f) r p)
   unfolding sourceBy
-  layers-source p x g = let k = layers-kept in g (k .0) (k .1) c ∙ rw (k .2)
+  layers-source p x g = let y = layers-body in let k = layers-kept (y .0) (y .1) in g (y .0) (y .1) (k .0) (k .1) ∙ rw (k .2)
+
+  -- and where it is not joined, that is what is read
+  pub layers-direct : isJoined (locationOf f (idOf f r)) ≡ false → (b x : List ℕ) → bodyOf total head f (idOf f r) ≡ ok b →
+      x ≡ bodyOr (bodyIn (storeOf total head f (locationOf f (idOf f r) .method)) (locationOf f (idOf f r))) → (o : Overlay) →
+      whole (iovl-form n) 0 b ≡ ok o → whole (iovl-form n) 0 x ≡ ok o
+  layers-direct j b x eb ex o eo =
+      rw (ex, direct-read (v .followed .view) total r h (v .followed .placed r h) j b eb) eo

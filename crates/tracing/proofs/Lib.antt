@@ -1,6 +1,9 @@
 pub mod TileLaws
 pub mod NextLaws
+pub mod OriginLaws
 pub mod UndoneLaws
+pub mod WalkedLaws
 pub mod SideLaws
 pub mod LayerLaws
+pub mod WindowLaws
 pub mod TraceLaws

@@ -14,7 +14,7 @@ use Rattle.fields.proofs.FieldLaws.{pick-yes, pick-no}
 use Rattle.fields.proofs.TestLaws.{and-both}
 use Rattle.boxes.specs.Answer.{ok}
 use Rattle.boxes.specs.Types.{iden, grid, derived, image}
-use Rattle.boxes.proofs.AnswerLaws.{then-ok, ok-inj}
+use Rattle.boxes.proofs.AnswerLaws.{then-ok, ok-inj, ok-bind}
 use Rattle.forms.specs.Form.{whole}
 use Rattle.table.specs.declared.ItemRow.{ItemRow}
 use Rattle.contents.specs.Iinf.{Item}
@@ -33,11 +33,12 @@ use Rattle.pictures.proofs.GridLaws.{told-grid}
 use Rattle.pictures.proofs.SceneLaws.{same-size, is-made-up}
 use Rattle.pictures.proofs.SourceLaws.{tile-in}
 use Rattle.rules.specs.Joined.{targetsOf, rowOf, itemAt}
+use Rattle.rules.specs.Bytes.{bodyOf}
 use Rattle.rules.specs.Derivations.{itsBody, copyOf, tilesOf, layersOf, recipeFor, recipeOf, sceneOf}
 use Rattle.rules.proofs.DerivationLaws.{rule-17-ok, body-read}
 use Rattle.rules.proofs.SceneLaws.{opaque-at, recipe-ok, inputs-fed}
 use Rattle.views.specs.inner.View.{SizesAre, idOf}
-use Rattle.derived.specs.inner.Told.{bodyOr}
+use Rattle.derived.specs.inner.Told.{Readable, gridIn}
 use Rattle.sizing.proofs.SizesLaws.{scene-many, scene-input, scene-input-size}
 use Rattle.tracing.specs.inner.Told.{Shown, toldSource}
 use Rattle.tracing.specs.declared.Source.the-variants as source
@@ -102,15 +103,14 @@ module _ {t rows head : List ℕ} {total : ℕ} {f : File} (d : Shown t rows hea
         ap (λ (n : ℕ). source.Input (record { 0 = n }) p) (g l ∙ sym (scene-input total head f r copy-drawn 0 l))
         ∙ sym (ap (λ (x : Recipe). toldSource (sourceBy s picture x p)) copied)
 
-  -- `grid`: b is the body, read as x
-  module _ (q : itemAt f r .type ≡ grid) (b : List ℕ) (eb : b ≡ bodyOr (itsBody total head f (itemAt f r)))
-      (x : GridRead) (ex : x ≡ toldGrid (whole grid-form 0 b)) where
+  -- `grid`: its body is read as x, if it can be read
+  module _ (q : itemAt f r .type ≡ grid) (x : GridRead)
+      (told : Readable total head f (idOf f r) → x ≡ toldGrid (gridIn (bodyOf total head f (idOf f r)))) where
     grid-told : (g : Grid) × (x ≡ toldGrid (ok g)) × (picture .recipe ≡ Tiles g)
-    unfolding bodyOr
     grid-told =
         let k = recipe-ok total head f r (ap (λ (k : ℕ). image k) q) (d .fed r h) in
         let y = tiles-by total head f (itemAt f r) (k .0) (k .1) q in
-        (y .2, ex ∙ ap (λ (b : List ℕ). toldGrid (whole grid-form 0 b)) (eb ∙ ap bodyOr (y .1)) ∙ ap toldGrid (y .3), k .2 ∙ y .4)
+        (y .2, told (λ j. (y .0, y .1)) ∙ ap toldGrid (ok-bind _ (whole grid-form 0) (y .0) (y .1) ∙ y .3), k .2 ∙ y .4)
 
     pub grid-there : x ≡ Wrong → ⊥
     unfolding toldGrid
@@ -149,7 +149,7 @@ module _ {t rows head : List ℕ} {total : ℕ} {f : File} (d : Shown t rows hea
     module _ (k : ℕ) (ek : 0 < length targets → k ≡ rowOf (getD targets 0 0) (f .items)) (z : Size)
         (ez : (s : Scene) → SizesAre t s → k < length s → z ≡ outputOf (pictureAt s k)) where
       tile-read : z ≡ firstInput s picture
-      tile-read = scene-input-size total head f r tiles-image (d .view) (d .sizes) 0 (tiles-many .1) k (ek (tiles-many .1)) z ez
+      tile-read = scene-input-size total head f r tiles-image (d .followed .view) (d .sizes) 0 (tiles-many .1) k (ek (tiles-many .1)) z ez
 
       pub tile-wide : z .wide ≡ 0 → ⊥
       tile-wide e = omega (arith, e, ap (λ (z : Size). z .wide) tile-read, tiles-under .1 .in-x)

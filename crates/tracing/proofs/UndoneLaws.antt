@@ -77,7 +77,7 @@ drop-map (suc j) (b ∷ bs) = drop-map j bs
 
 -- m is where the first transform from the box with number j on stands
 module _ (f : File) (id j m : ℕ) (e : m ≡ j + firstTransform (drop j (typesOf f id))) where
-  turns-next : (s : Size) → turnsOf s (drop m (boxesOf f id)) ≡ turnsOf s (drop j (boxesOf f id))
+  pub turns-next : (s : Size) → turnsOf s (drop m (boxesOf f id)) ≡ turnsOf s (drop j (boxesOf f id))
   turns-next s =
       ap (λ (m : ℕ). turnsOf s (drop m (boxesOf f id))) (e ∙ ap (λ (ks : List ℕ). j + firstTransform ks) (drop-map j (boxesOf f id)))
       ∙ ap (turnsOf s) (sym (drop-drop _ j (boxesOf f id)))
@@ -99,20 +99,19 @@ module _ (f : File) (id j m : ℕ) (e : m ≡ j + firstTransform (drop j (typesO
         subst (λ (ts : List Turn). LeadsBack ts s p p) (turns-next s)
         (undone-none (boxesOf f id) m (omega (arith, boxes-many f id)) s p)
 
--- from the box with number j on, whose type is k
+-- from the box with number j on, whose type is k; b is the box, c its content, and u what it does
 module _ {t head : List ℕ} {pl : Places} {f : File} (v : TableOf t head pl f) (id j : ℕ) (l : j < length (associationsOf f id))
-    (k : ℕ) (e : k ≡ getD (typesOf f id) j 0) (s : Size) (p r : Point) where
-  -- b is the box, and c its content
-  pub undone-read : (b c : List ℕ) → b ≡ getD (boxesOf f id) j [] → c ≡ bodyOf b → (u : Turn) → transform k ≡ true →
-      (LongAsAsked k c → u ≡ turnBy s k c) → (z : Size) → z ≡ sizeAfter u s
-      → (o : Point) → LeadsBack (turnsOf z (drop (j + 1) (boxesOf f id))) z p o →
-      (Fits u s → Inside (sizeAfter u s) o → r ≡ back u s o) → LeadsBack (turnsOf s (drop j (boxesOf f id))) s p r
-  undone-read b c eb ec u q g z ez o h w =
-      let x = turn-read v id j l k e b c eb ec s u q g in
-      let y : turnsOf s (drop j (boxesOf f id)) ≡ u ∷ turnsOf (sizeAfter u s) (drop (j + 1) (boxesOf f id)) =
+    (k : ℕ) (e : k ≡ getD (typesOf f id) j 0) (s : Size) (b c : List ℕ) (eb : b ≡ getD (boxesOf f id) j []) (ec : c ≡ bodyOf b)
+    (u : Turn) (q : transform k ≡ true) (g : LongAsAsked k c → u ≡ turnBy s k c) where
+  pub turns-read : turnsOf s (drop j (boxesOf f id)) ≡ u ∷ turnsOf (sizeAfter u s) (drop (j + 1) (boxesOf f id))
+  turns-read =
       ap (turnsOf s) (boxes-left v id j l k e)
       ∙ turns-turn s _ _ (ap transform (sym (kind-said v id j l k e)) ∙ q)
-      ∙ ap (λ (t : Turn). t ∷ turnsOf (sizeAfter t s) (drop (j + 1) (boxesOf f id))) (sym x) in
-      subst (λ (ts : List Turn). LeadsBack ts s p r) (sym y)
-      (back-turn u (turnsOf (sizeAfter u s) (drop (j + 1) (boxesOf f id))) s p o r
-      (subst (λ (z : Size). LeadsBack (turnsOf z (drop (j + 1) (boxesOf f id))) z p o) ez h) w)
+      ∙ ap (λ (t : Turn). t ∷ turnsOf (sizeAfter t s) (drop (j + 1) (boxesOf f id))) (sym (turn-read v id j l k e b c eb ec s u q g))
+
+  -- no other transform follows
+  pub undone-one : (p r : Point) → LeadsBack (turnsOf (sizeAfter u s) (drop (j + 1) (boxesOf f id))) (sizeAfter u s) p p →
+      (Fits u s → Inside (sizeAfter u s) p → r ≡ back u s p) → LeadsBack (turnsOf s (drop j (boxesOf f id))) s p r
+  undone-one p r h w =
+      subst (λ (ts : List Turn). LeadsBack ts s p r) (sym turns-read)
+      (back-turn u (turnsOf (sizeAfter u s) (drop (j + 1) (boxesOf f id))) s p p r h w)

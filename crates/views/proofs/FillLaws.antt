@@ -20,7 +20,7 @@ use Rattle.pictures.specs.Scene.{Picture, Scene, pictureAt, outputOf}
 use Rattle.pictures.specs.Turn.{sizeThrough}
 use Rattle.pictures.specs.Depth.{depth, depthN, depthBy}
 use Rattle.rules.specs.Derivations.{pictureOf, sceneOf}
-use Rattle.rules.specs.Joined.{noItem, itemAt}
+use Rattle.rules.specs.Joined.{noExtent, noItem, itemAt}
 use Rattle.rules.specs.Places.{Places, placesIn}
 use Rattle.rules.specs.Words.{joinAll, headWords, propertiesFrom, extentWords, sizeWords, itemWords, recordsFrom, fileWords}
 use Rattle.rules.proofs.SceneLaws.{picture-at}
@@ -29,7 +29,7 @@ use Rattle.records.proofs.JoinLaws.{join-same, join-length, join-getD}
 use Rattle.records.proofs.RawLaws.{rowWords, row-length, records-joined, targets-length}
 use Rattle.records.proofs.SetsLaws.{sets-first, sets-from, sets-over, getD-from}
 use Rattle.records.proofs.BoundLaws.{read-bounds}
-use Rattle.views.specs.inner.View.{TableOf, SizesAre, AllPlaced, recordWord, noExtent}
+use Rattle.views.specs.inner.View.{TableOf, SizesAre, AllPlaced, recordWord}
 use Rattle.views.proofs.LocatedLaws.{noLocation, each-located}
 use Rattle.views.proofs.PartLaws.{property-parts}
 use Rattle.views.proofs.RegionLaws.{tableBy, table-length, target-word, record-sets}

@@ -16,12 +16,12 @@ use Rattle.forms.proofs.ManyLaws.{many-all}
 use Rattle.contents.specs.Iinf.{idsOf}
 use Rattle.contents.specs.Ipco.{GoodContent}
 use Rattle.contents.specs.Ipma.{Association, IpmaEntry, association-form, ipma-entry-form, ipma-form}
-use Rattle.contents.specs.Iref.{Derivation}
+use Rattle.contents.specs.Iref.{Reference}
 use Rattle.contents.specs.File.{File, readFile}
 use Rattle.contents.proofs.ReadLaws.{read-sound}
-use Rattle.rules.specs.Joined.{namedFor, derivedFrom, noAssociation}
+use Rattle.rules.specs.Joined.{namedFor, referredFrom, noAssociation}
 use Rattle.rules.specs.Places.{placesIn}
-use Rattle.rules.proofs.ListedLaws.{read-listed}
+use Rattle.rules.proofs.ListedLaws.{read-listed, read-links-listed}
 use Rattle.views.specs.inner.View.{Sound}
 use Rattle.views.proofs.PartLaws.{idat-part}
 
@@ -53,14 +53,14 @@ ipma-names : (ids : List ℕ) (most : ℕ) (s : List ℕ) (ns : List IpmaEntry) 
 unfolding ipma-form _>>=_
 ipma-names ids most s ns h = many-all (NamesAll most) _ (named-names ids most _ _) _ [] _ _ tt (h .then .then .then)
 
--- namedFor, derivedFrom: what holds of each entry holds of an ID's
+-- namedFor, referredFrom: what holds of each entry holds of an ID's
 named-all : (most : ℕ) (ns : List IpmaEntry) (id : ℕ) → All (NamesAll most) ns → All (Names most) (namedFor ns id)
 unfolding namedFor
 named-all most [] id a = tt
 named-all most (n ∷ ns) id a = both (All (Names most)) _ _ _ (λ e. a .0) (λ e. named-all most ns id (a .1))
 
-derived-all : (P : ℕ → Type 0) (ds : List Derivation) (id : ℕ) → All (λ (d : Derivation). All P (d .targets)) ds → All P (derivedFrom ds id)
-unfolding derivedFrom
+derived-all : (P : ℕ → Type 0) (ds : List Reference) (id : ℕ) → All (λ (d : Reference). All P (d .targets)) ds → All P (referredFrom ds id)
+unfolding referredFrom
 derived-all P [] id a = tt
 derived-all P (d ∷ ds) id a = both (All P) _ _ _ (λ e. a .0) (λ e. derived-all P ds id (a .1))
 
@@ -72,8 +72,10 @@ read-makes-sure total head f e =
       indexed = λ id j h. all-at (Names (length (f .properties))) noAssociation (namedFor (f .associations) id)
           (named-all _ (f .associations) id (ipma-names _ _ _ _ (s .in-iprp .associations))) j h;
       held = λ k h. all-at (λ (b : List ℕ). GoodContent (kindOf b) (bodyOf b)) [] (f .properties) (s .in-iprp .properties .good) k h;
-      listed = λ id j h. all-at (λ (t : ℕ). member t (idsOf (f .items)) ≡ true) 0 (derivedFrom (f .derivations) id)
+      listed = λ id j h. all-at (λ (t : ℕ). member t (idsOf (f .items)) ≡ true) 0 (referredFrom (f .derivations) id)
           (derived-all _ (f .derivations) id (read-listed total head f e)) j h;
+      linked = λ id j h. all-at (λ (t : ℕ). member t (idsOf (f .items)) ≡ true) 0 (referredFrom (f .links) id)
+          (derived-all _ (f .links) id (read-links-listed total head f e)) j h;
       idat-room = idat-part total head f e .room;
       idat-part = idat-part total head f e .part;
     }

@@ -15,14 +15,13 @@ use Rattle.fields.specs.Choice.{pick}
 use Rattle.fields.proofs.FieldLaws.{pick-yes, pick-no, both}
 use Rattle.contents.specs.Iloc.{Extent, Location, extentsIn}
 use Rattle.contents.specs.Ipma.{Association, IpmaEntry, associationsIn}
-use Rattle.contents.specs.Iref.{Derivation, targetsIn}
-use Rattle.rules.specs.Joined.{locatedAt, namedFor, derivedFrom, noAssociation}
+use Rattle.contents.specs.Iref.{Reference, targetsIn}
+use Rattle.rules.specs.Joined.{noExtent, locatedAt, namedFor, referredFrom, noAssociation}
 use Rattle.rules.specs.Words.{Group, joinAll, firstIn, totalOf, namedGroups, derivedGroups, locatedGroups, associationWord}
 use Rattle.records.specs.inner.Raw.{associationRows, targetRows}
 use Rattle.records.proofs.JoinLaws.{join-length, join-getD}
 use Rattle.records.proofs.SaidLaws.{named-total, derived-total, located-total}
 use Rattle.records.proofs.SetsLaws.{getD-from}
-use Rattle.views.specs.inner.View.{noExtent}
 
 -- the first index of a span
 abbrev pub firstOf : ℕ → List Group → ℕ → ℕ
@@ -110,17 +109,17 @@ named-span ns x j h =
     (λ l. map (λ (a : Association). associationWord a) l) 1 (λ l. rw length-map (omega arith)) ns x j _ (rw length-map h) (omega arith)
     ∙ List·getD-map (λ (a : Association). associationWord a) (namedFor ns x) j noAssociation
 
--- derivedFrom
-pub target-room : (ds : List Derivation) (x : ℕ) → firstOf x (derivedGroups ds) (length (derivedFrom ds x)) + length (derivedFrom ds x) ≤ targetsIn ds
-unfolding derivedFrom
-target-room ds x = rw (derived-total ds) at (span-room (λ (d : Derivation). d .id) (λ (d : Derivation). d .targets)
-    derivedFrom (λ a es y. refl) (λ l. length l) (λ y. refl) ds x)
+-- referredFrom
+pub target-room : (ds : List Reference) (x : ℕ) → firstOf x (derivedGroups ds) (length (referredFrom ds x)) + length (referredFrom ds x) ≤ targetsIn ds
+unfolding referredFrom
+target-room ds x = rw (derived-total ds) at (span-room (λ (d : Reference). d .id) (λ (d : Reference). d .targets)
+    referredFrom (λ a es y. refl) (λ l. length l) (λ y. refl) ds x)
 
-pub target-span : (ds : List Derivation) (x j : ℕ) → j < length (derivedFrom ds x)
-    → getD (targetRows ds) (firstOf x (derivedGroups ds) (length (derivedFrom ds x)) + j) 0 ≡ getD (derivedFrom ds x) j 0
-unfolding derivedFrom targetRows
+pub target-span : (ds : List Reference) (x j : ℕ) → j < length (referredFrom ds x)
+    → getD (targetRows ds) (firstOf x (derivedGroups ds) (length (referredFrom ds x)) + j) 0 ≡ getD (referredFrom ds x) j 0
+unfolding referredFrom targetRows
 target-span ds x j h =
-    span-word (λ (d : Derivation). d .id) (λ (d : Derivation). d .targets) derivedFrom (λ a es y. refl) (λ l. length l) (λ y. refl)
+    span-word (λ (d : Reference). d .id) (λ (d : Reference). d .targets) referredFrom (λ a es y. refl) (λ l. length l) (λ y. refl)
     (λ l. l) 1 (λ l. omega arith) ds x j _ h (omega arith)
 
 -- locatedAt

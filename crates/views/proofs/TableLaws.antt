@@ -12,11 +12,11 @@ use Rattle.fields.proofs.FieldLaws.{pick-yes, pick-no}
 use Rattle.boxes.specs.Box.{headOf, kindOf, bodyOf}
 use Rattle.boxes.proofs.BoxLaws.{head-least, short-head, long-head}
 use Rattle.contents.specs.File.{File}
-use Rattle.rules.specs.Joined.{associationsOf, targetsOf, locationOf, propertyAt, itemAt, noAssociation}
+use Rattle.rules.specs.Joined.{noExtent, associationsOf, targetsOf, locationOf, propertyAt, itemAt, noAssociation}
 use Rattle.rules.specs.Places.{Places, fileOffset}
 use Rattle.rules.specs.Words.{associationWord}
 use Rattle.records.specs.inner.Raw.{capped}
-use Rattle.views.specs.inner.View.{TableOf, recordWord, wide, idOf, noExtent}
+use Rattle.views.specs.inner.View.{TableOf, recordWord, wide, idOf}
 
 -- propertyAt
 pub property-none : (f : File) (k : ℕ) → k ≡ 0 → propertyAt f k ≡ []

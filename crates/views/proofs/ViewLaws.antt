@@ -8,7 +8,7 @@ use mathlib.Core.Bool.{Bool, true, false}
 use lib.ListN.{length, getD, take, length-append, List·getD-append}
 use lib.Seq.{getD-take}
 use lib.Dec.{eqb}
-use borrow.Author.Tests.{leb-true, le-leb, ne-eqb}
+use borrow.Author.Tests.{eqb-true, leb-true, le-leb, ne-eqb}
 use Rattle.fields.specs.Choice.{pick}
 use Rattle.fields.proofs.FieldLaws.{pick-yes, both}
 use Rattle.fields.proofs.TestLaws.{and-both}
@@ -20,12 +20,12 @@ use Rattle.contents.specs.Iloc.{Extent, Location}
 use Rattle.contents.specs.File.{File, readFile}
 use Rattle.contents.proofs.ReadLaws.{read-sound}
 use Rattle.pictures.specs.Scene.{Scene}
-use Rattle.rules.specs.Bytes.{Store, storeOf, allExtents, within}
+use Rattle.rules.specs.Bytes.{madeOfItems, Source, known, fileSource}
+use Rattle.rules.proofs.PlacedLaws.{Placed, placed-of, in-file, in-item}
 use Rattle.rules.specs.Derivations.{sceneOf}
-use Rattle.rules.specs.Joined.{locationOf, noItem, itemAt}
+use Rattle.rules.specs.Joined.{noExtent, locationOf, noItem, itemAt}
 use Rattle.rules.specs.Places.{Places, placesIn, propertyOffset, fileOffset}
 use Rattle.rules.specs.Opening.{accepted}
-use Rattle.rules.specs.Rules.{rule13-14}
 use Rattle.rules.specs.Words.{headWords, extentWords, sizeWords, itemWords, recordsFrom, wordsWith, fileWords}
 use Rattle.rules.proofs.RuleLaws.{judged-each, accepted-both}
 use Rattle.records.specs.inner.Raw.{Bounded, namedWords, derivedWords, placeWords, recordOf, capped, extentRow, extentRows, associationRows, targetRows, rawOf}
@@ -34,7 +34,7 @@ use Rattle.records.proofs.JoinLaws.{join-getD}
 use Rattle.records.proofs.RawLaws.{rowWords, row-length, recordsIn, records-joined, records-length, raw-record}
 use Rattle.records.proofs.SetsLaws.{getD-from}
 use Rattle.records.proofs.BoundLaws.{read-bounds}
-use Rattle.views.specs.inner.View.{TableOf, Judging, AllPlaced, recordWord, idOf, noExtent}
+use Rattle.views.specs.inner.View.{TableOf, Judging, AllPlaced, recordWord, idOf}
 use Rattle.views.proofs.LieLaws.{PartIn}
 use Rattle.views.proofs.RegionLaws.{tableBy, record-word}
 use Rattle.views.proofs.WordLaws.{Rows, Spells, tableWith, fill, place-at, view}
@@ -133,37 +133,48 @@ pub words-table : (total : ℕ) (head : List ℕ) (f : File)
 unfolding wordsWith tableBy associationRows targetRows
 words-table total head f = refl
 
--- allExtents
-pub extents-each : (t : Extent → Bool) (d : Extent) (es : List Extent) → allExtents t es ≡ true → (j : ℕ) → j < length es → t (getD es j d) ≡ true
-unfolding allExtents
-extents-each t d [] e j h = absurd (not-suc-le-zero h)
-extents-each t d (x ∷ es) e zero h = and-both (t x) (allExtents t es) e .0
-extents-each t d (x ∷ es) e (suc j) h = extents-each t d es (and-both (t x) (allExtents t es) e .1) j (le-of-suc-le-suc h)
+-- fileOffset, of method 2: it counts from the named item's start
+pub offset-made : (pl : Places) (l : Location) (e : Extent) → l .method ≡ 2 → fileOffset pl l e ≡ l .base + e .offset
+unfolding fileOffset pick
+offset-made pl l e m = rw m (omega arith)
 
--- an extent in the source that its method names lies in the file
+-- an extent of an item of method 0 or 1 lies in the file, in the source that its method names
 module _ (total : ℕ) (head : List ℕ) (f : File) (pl : Places) (small : length head ≤ total) (part : PartIn head (pl .idat) (f .idat)) where
-  offset-within : (l : Location) (e : Extent) → l .base + e .offset + e .size ≤ storeOf total head f (l .method) .size → fileOffset pl l e + e .size ≤ total
+  pub offset-within : (id : ℕ) (e : Extent) →
+      locationOf f id .base + e .offset + e .size ≤ fileSource total head f id .size → fileOffset pl (locationOf f id) e + e .size ≤ total
   unfolding fileOffset pick
-  offset-within l e h = by (eqb (l .method) 1) h
+  offset-within id e h = by (eqb (locationOf f id .method) 1) h
     where
-      by : (t : Bool) → l .base + e .offset + e .size ≤ pick {A = Store} t
-          (record { size = length (f .idat); known = f .idat }) (record { size = total; known = head }) .size
-          → pick t (pl .idat) 0 + (l .base + e .offset) + e .size ≤ total
+      by : (t : Bool) → locationOf f id .base + e .offset + e .size ≤ pick {A = Source} t
+          (record { size = length (f .idat); byte = known (f .idat) }) (record { size = total; byte = known head }) .size
+          → pick t (pl .idat) 0 + (locationOf f id .base + e .offset) + e .size ≤ total
       by true h = omega (arith, part .room)
       by false h = omega arith
 
--- AllPlaced: every extent of an item lies in the file
-pub extent-within : (total : ℕ) (head : List ℕ) (f : File) → readFile total head ≡ ok f → AllPlaced total head f →
+-- AllPlaced: every extent of an item ends before 2^64, in the file or in the item that it names
+pub extent-below : (total : ℕ) (head : List ℕ) (f : File) → total < 18446744073709551616 → readFile total head ≡ ok f → AllPlaced total head f →
     (r j : ℕ) → r < length (f .items) → j < length (locationOf f (idOf f r) .extents)
     → fileOffset (placesIn total head) (locationOf f (idOf f r)) (getD (locationOf f (idOf f r) .extents) j noExtent) +
-    getD (locationOf f (idOf f r) .extents) j noExtent .size ≤ total
-unfolding rule13-14
-extent-within total head f e placed r j h l =
-    let x = then-ok _ _ tt (placed r h) in
-    let w = and-both (within (storeOf total head f (locationOf f (idOf f r) .method)) (locationOf f (idOf f r))) _ (check-ok 14 _ _ tt (x .2)) .0 in
-    let t = extents-each _ noExtent (locationOf f (idOf f r) .extents) w j l in
-    offset-within total head f (placesIn total head) (read-sound total head f e .within) (idat-part total head f e)
-    (locationOf f (idOf f r)) (getD (locationOf f (idOf f r) .extents) j noExtent) (leb-true _ _ t)
+    getD (locationOf f (idOf f r) .extents) j noExtent .size < 18446744073709551616
+extent-below total head f few e placed r j h l = by (madeOfItems f (idOf f r)) refl
+  where
+    its : Extent
+    its = getD (locationOf f (idOf f r) .extents) j noExtent
+
+    Goal : Type 0
+    Goal = fileOffset (placesIn total head) (locationOf f (idOf f r)) its + its .size < 18446744073709551616
+
+    k : Placed total head f (itemAt f r)
+    k = placed-of total head f (itemAt f r) (placed r h)
+
+    by : (t : Bool) → madeOfItems f (idOf f r) ≡ t → Goal
+    by true m =
+        let w = in-item total head f (itemAt f r) k j l m in
+        rw (offset-made (placesIn total head) (locationOf f (idOf f r)) its (eqb-true _ 2 m)) (omega (arith, w .ends, w .small))
+    by false m =
+        let w = offset-within total head f (placesIn total head) (read-sound total head f e .within) (idat-part total head f e)
+        (idOf f r) its (in-file total head f (itemAt f r) k j l m) in
+        omega arith
 
 -- capped
 pub capped-same : (x : ℕ) → x < 18446744073709551616 → capped x ≡ x
@@ -177,7 +188,7 @@ unfolding extentRow
 words-spelled total head f few e placed r j h l =
     rw (capped-same (fileOffset (placesIn total head) (locationOf f (idOf f r))
     (getD (locationOf f (idOf f r) .extents) j noExtent)) (omega
-    (arith, extent-within total head f e placed r j h l)))
+    (arith, extent-below total head f few e placed r j h l)))
 
 pub placed-view : (total : ℕ) (head : List ℕ) (f : File) (x : List ℕ) → total < 18446744073709551616 → readFile total head ≡ ok f → AllPlaced total head f
     → TableOf (fileWords total head f ++ x) head (placesIn total head) f
@@ -193,7 +204,7 @@ pub words-view : (total : ℕ) (head : List ℕ) (f : File) (x : List ℕ) → t
     → TableOf (fileWords total head f ++ x) head (placesIn total head) f
 words-view total head f x few e =
     let a = accepted-both total head f e in
-    placed-view total head f x few (a .0) (judged-each total head f (a .1) .by-13-14)
+    placed-view total head f x few (a .0) (judged-each total head f (a .1) .by-13-30-14)
 
 -- the words of a record behind the tenth: the sizes and the depth
 pub words-sizes : (total : ℕ) (head : List ℕ) (f : File) (x : List ℕ) → Bounded f → (r k : ℕ) → r < length (f .items) → k < 5

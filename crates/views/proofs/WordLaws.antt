@@ -9,7 +9,7 @@ use Rattle.boxes.specs.Box.{kindOf, flat}
 use Rattle.contents.specs.Iinf.{idsOf}
 use Rattle.contents.specs.Iloc.{Extent, Location}
 use Rattle.contents.specs.File.{File}
-use Rattle.rules.specs.Joined.{locationOf, associationsOf, targetsOf, itemAt, noAssociation}
+use Rattle.rules.specs.Joined.{noExtent, locationOf, associationsOf, targetsOf, itemAt, noAssociation}
 use Rattle.rules.specs.Places.{Places, fileOffset}
 use Rattle.rules.specs.Words.{headWords, propertiesFrom, associationWord, namedGroups, derivedGroups, locatedGroups}
 use Rattle.records.specs.inner.Raw.{Bounded, namedWords, derivedWords, placeWords, recordOf, capped, extentRow, associationRows, targetRows}
@@ -17,7 +17,9 @@ use Rattle.records.specs.inner.Rows.{Distinct}
 use Rattle.records.proofs.RawLaws.{rowWords, properties-length, associations-length, targets-length}
 use Rattle.records.proofs.SaidLaws.{derived-total}
 use Rattle.records.proofs.SetsLaws.{getD-from}
-use Rattle.views.specs.inner.View.{Sound, TableOf, recordWord, wide, idOf, noExtent}
+use borrow.Author.Tests.{ne-eqb}
+use Rattle.fields.proofs.FieldLaws.{pick-no}
+use Rattle.views.specs.inner.View.{Sound, TableOf, recordWord, wide, idOf}
 use Rattle.views.proofs.LieLaws.{PartIn}
 use Rattle.views.proofs.SpanLaws.{firstOf, named-room, named-span, target-room, target-span, extent-room, extent-span, extentsBy, extents-by-length}
 use Rattle.views.proofs.RegionLaws.{tableBy, Fill, table-length, head-word, record-word, property-word, association-word, target-word, extent-word}
@@ -206,6 +208,7 @@ module _ (total : ℕ) (head : List ℕ) (pl : Places) (f : File) (g : Location 
         target-count = target-many;
         target = target-at;
         extent-room = λ r h. omega (arith, extent-first r h, extent-room (f .locations) (idOf f r), b .few-extents);
+        extent-first = λ r h l. extent-first r h ∙ pick-no 0 _ (ne-eqb (length (locationOf f (idOf f r) .extents)) 0 (λ z. omega arith));
         extent-count = extent-many;
         extent-size = size-at spelled;
         extent-offset = offset-at spelled;

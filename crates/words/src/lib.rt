@@ -46,10 +46,10 @@ pub fn place_kind(number: u32) -> PlaceKind
     if is_among(number, &[3, 6, 7, 8, 9, 10, 11]) {
         return PlaceKind::Box;
     }
-    if is_among(number, &[12, 13, 14, 15, 16, 17, 18, 19, 20, 29]) {
+    if is_among(number, &[12, 13, 14, 15, 16, 17, 18, 19, 20, 29, 30]) {
         return PlaceKind::Item;
     }
-    if is_among(number, &[21, 22, 23, 24, 25, 26, 28]) {
+    if is_among(number, &[21, 22, 23, 24, 25, 26, 28, 31]) {
         return PlaceKind::Asked;
     }
     PlaceKind::Nothing

@@ -48,7 +48,7 @@ pub fn print_box_words(fd: i32, number: u32) {
     }
 }
 
-// 12 to 20 and 29: of an item.
+// 12 to 20, 29 and 30: of an item.
 pub fn print_item_words(fd: i32, number: u32) {
     match number {
         12 => say(
@@ -79,11 +79,15 @@ pub fn print_item_words(fd: i32, number: u32) {
             fd,
             b"is of type `hvc1` and does not have exactly one `hvcC`, marked essential",
         ),
+        30 => say(
+            fd,
+            b"is made of other items' bytes by a chain that goes round, is more than 8 deep, or lacks a reference",
+        ),
         _ => {}
     }
 }
 
-// 21 to 26 and 28: of the item that was asked for.
+// 21 to 26, 28 and 31: of the item that was asked for.
 pub fn print_asked_words(fd: i32, number: u32) {
     match number {
         21 => say(fd, b"is not listed"),
@@ -96,6 +100,10 @@ pub fn print_asked_words(fd: i32, number: u32) {
         25 => say(fd, b"has no property with that number"),
         26 => say(fd, b"has a crop, and an orientation cannot say one"),
         28 => say(fd, b"has more than 512 points asked of it at once"),
+        31 => say(
+            fd,
+            b"may have a longer body than the buffer that was lent, which must have 16,402 bytes",
+        ),
         _ => {}
     }
 }

@@ -10,7 +10,7 @@ use mathlib.Core.Bool.{Bool, true, false, _&&_}
 use lib.Dec.{eqb}
 use Rattle.fields.specs.Choice.{pick}
 use Rattle.arguments.specs.declared.Word.{Word}
-use Rattle.arguments.specs.declared.Word.the-variants.{Verdict, Why, Size, Trace, Sources, Property, Crop, Orientation, Transforms, Points, Unknown}
+use Rattle.arguments.specs.declared.Word.the-variants.{Verdict, Why, Size, Trace, Sources, Property, Crop, Orientation, Transforms, Points, Body, Unknown}
 
 unfoldable pub same : List ℕ → List ℕ → Bool
 same [] [] = true
@@ -49,12 +49,16 @@ transforms = 116 ∷ 114 ∷ 97 ∷ 110 ∷ 115 ∷ 102 ∷ 111 ∷ 114 ∷ 109 
 abbrev pub points : List ℕ
 points = 112 ∷ 111 ∷ 105 ∷ 110 ∷ 116 ∷ 115 ∷ []
 
+abbrev pub body : List ℕ
+body = 98 ∷ 111 ∷ 100 ∷ 121 ∷ []
+
 unfoldable pub laterWordOf : List ℕ → Word
 laterWordOf s =
     pick (same s crop) Crop
     (pick (same s orientation) Orientation
     (pick (same s transforms) Transforms
-    (pick (same s points) Points Unknown)))
+    (pick (same s points) Points
+    (pick (same s body) Body Unknown))))
 
 unfoldable pub wordOf : List ℕ → Word
 wordOf s =
@@ -76,6 +80,7 @@ numbersOf Crop = 1
 numbersOf Orientation = 1
 numbersOf Transforms = 1
 numbersOf Points = 5
+numbersOf Body = 1
 numbersOf Unknown = 0
 
 abbrev pub mayBeAlone : Word → Bool
@@ -89,4 +94,5 @@ mayBeAlone Crop = false
 mayBeAlone Orientation = true
 mayBeAlone Transforms = false
 mayBeAlone Points = false
+mayBeAlone Body = false
 mayBeAlone Unknown = true

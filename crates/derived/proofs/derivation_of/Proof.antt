@@ -9,30 +9,30 @@ use Rattle.derived.proofs.derivation_of.Statement.{statement}
 use Rattle.derived.proofs.derivation_of.Tie as tie
 
 returns : tie.Need-returns
-returns c = λ total pl f v h placed d. absurd (omega (arith, v .enough))
+returns c = λ total f w h known d. absurd (omega (arith, w .view .enough))
 
 returns-2 : tie.Need-returns-2
 returns-2 c =
-    let c2 = c .before .before in let c6 = c2 .before .before .before .before in
-    λ total pl f v h placed d.
-    let kind = type-read v (c6 .args .row .0) h _ (c2 .type-of .ensures) in
-    c .copy-of .ensures total _ pl f v h ∙ type-copy total _ f (itemAt f (c6 .args .row .0))
+    let c2 = c .before .before in let c7 = c2 .before .before .before .before .before in
+    λ total f w h known d.
+    let kind = type-read (w .view) (c7 .args .row .0) h _ (c2 .type-of .ensures) in
+    c .copy-of .ensures total _ _ f (w .view) h ∙ type-copy total _ f (itemAt f (c7 .args .row .0))
     (sym kind ∙ c .before .if2 .taken)
 
 returns-3 : tie.Need-returns-3
 returns-3 c =
-    let c2 = c .before .before in let c3 = c2 .before in let c7 = c3 .before .before .before .before in
-    λ total pl f v h placed d.
-    let kind = type-read v (c7 .args .row .0) h _ (c3 .type-of .ensures) in
-    c .tiles-of .ensures total pl f v h placed ∙ type-tiles total _ f (itemAt f (c7 .args .row .0))
+    let c2 = c .before .before in let c3 = c2 .before in let c8 = c3 .before .before .before .before .before in
+    λ total f w h known d.
+    let kind = type-read (w .view) (c8 .args .row .0) h _ (c3 .type-of .ensures) in
+    c .tiles-of .ensures total f w h known ∙ type-tiles total _ f (itemAt f (c8 .args .row .0))
     (λ q. c2 .if2 .left (kind ∙ q)) (sym kind ∙ c .before .if3 .taken)
 
 returns-4 : tie.Need-returns-4
 returns-4 c =
-    let c2 = c .before .before in let c3 = c2 .before in let c7 = c3 .before .before .before .before in
-    λ total pl f v h placed d.
-    let kind = type-read v (c7 .args .row .0) h _ (c3 .type-of .ensures) in
-    c .layers-of .ensures total pl f v h placed ∙ type-layers total _ f (itemAt f (c7 .args .row .0))
+    let c2 = c .before .before in let c3 = c2 .before in let c8 = c3 .before .before .before .before .before in
+    λ total f w h known d.
+    let kind = type-read (w .view) (c8 .args .row .0) h _ (c3 .type-of .ensures) in
+    c .layers-of .ensures total f w h known ∙ type-layers total _ f (itemAt f (c8 .args .row .0))
     (λ q. c2 .if2 .left (kind ∙ q)) (λ q. c .before .if3 .left (kind ∙ q))
 
 pub derivation-of-spec : {M : Type 1} → statement M

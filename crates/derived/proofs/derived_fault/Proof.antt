@@ -13,23 +13,23 @@ returns : tie.Need-returns
 returns c =
     let c2 = c .before .before in let c3 = c2 .before in let c4 = c3 .before in
     let c8 = c4 .before .before .before .before in
-    λ total pl f v w h placed. plain-fed total _ f (itemAt f (c8 .args .row .0))
-    (test-read v (c8 .args .row .0) h derived _ _ (c4 .type-of .ensures) (c3 .is-derived .ensures) ∙
-    not-true _ (c2 .if1 .taken)) _ (c .before .input-count .ensures _ pl f v h) (c .if2 .taken)
+    λ total f w h v k. plain-fed total _ f (itemAt f (c8 .args .row .0))
+    (test-read (w .view) (c8 .args .row .0) h derived _ _ (c4 .type-of .ensures) (c3 .is-derived .ensures) ∙
+    not-true _ (c2 .if1 .taken)) _ (c .before .input-count .ensures _ _ f (w .view) h) (c .if2 .taken)
 
 returns-2 : tie.Need-returns-2
 returns-2 c =
     let c2 = c .before .before in let c3 = c2 .before in let c4 = c3 .before in
     let c8 = c4 .before .before .before .before in
-    λ total pl f v w h placed. plain-inputs total _ f (itemAt f (c8 .args .row .0))
-    (test-read v (c8 .args .row .0) h derived _ _ (c4 .type-of .ensures) (c3 .is-derived .ensures) ∙
-    not-true _ (c2 .if1 .taken)) _ (c .before .input-count .ensures _ pl f v h) (c .if2 .left)
+    λ total f w h v k. plain-inputs total _ f (itemAt f (c8 .args .row .0))
+    (test-read (w .view) (c8 .args .row .0) h derived _ _ (c4 .type-of .ensures) (c3 .is-derived .ensures) ∙
+    not-true _ (c2 .if1 .taken)) _ (c .before .input-count .ensures _ _ f (w .view) h) (c .if2 .left)
 
 returns-3 : tie.Need-returns-3
 returns-3 c =
     let c2 = c .before .before in let c3 = c2 .before in let c7 = c3 .before .before .before .before in
-    λ total pl f v w h placed. c .made-fault .ensures total pl f v w h placed
-    (test-read v (c7 .args .row .0) h derived _ _ (c3 .type-of .ensures) (c2 .is-derived .ensures) ∙
+    λ total f w h v k. c .made-fault .ensures total f w h v k
+    (test-read (w .view) (c7 .args .row .0) h derived _ _ (c3 .type-of .ensures) (c2 .is-derived .ensures) ∙
     not-false _ (c .before .if1 .left))
 
 pub derived-fault-spec : {M : Type 1} → statement M

@@ -15,7 +15,7 @@ returns c =
     let a = c6 .args in
     λ total f d h. misfit-opaque (sceneOf total (a .head .now) f) f (a .row .0)
     (sym (not-true _ (c .if1 .taken)) ∙ c .before .is-image .ensures ∙
-    ap image (c2 .type-of .ensures (omega (arith, d .view .bounded .few-items)) ∙ d .view .type (a .row .0) h))
+    ap image (c2 .type-of .ensures (omega (arith, d .followed .view .bounded .few-items)) ∙ d .followed .view .type (a .row .0) h))
 
 returns-2 : tie.Need-returns-2
 returns-2 c =
@@ -23,7 +23,7 @@ returns-2 c =
     let a = c7 .args in
     λ total f d h.
     let drawn = sym (not-false _ (c .before .if1 .left)) ∙ c2 .is-image .ensures ∙
-    ap image (c3 .type-of .ensures (omega (arith, d .view .bounded .few-items)) ∙ d .view .type (a .row .0) h) in
+    ap image (c3 .type-of .ensures (omega (arith, d .followed .view .bounded .few-items)) ∙ d .followed .view .type (a .row .0) h) in
     misfit-sized (sceneOf total (a .head .now) f) f (a .row .0) drawn (c .good-sizes .result)
     (c .good-sizes .ensures total f d h (sym drawn))
 

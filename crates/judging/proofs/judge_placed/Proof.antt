@@ -1,20 +1,9 @@
 -- `judging::judge_placed` meets its contract. Assumes nothing.
-use Prim.Native.Nat.{_<_}
 use native.Mathlib.Omega.{arith}
-use mathlib.Core.List.{List}
-use mir.Val.{Val}
-use denote.Laws.{Is}
-use denote.Struct.Declared.{row}
-use Rattle.placed.specs.declared.Ends.{Ends}
-use Rattle.placed.proofs.Ends.{the-type}
-use Rattle.judging.proofs.JudgeLaws.{read-here, early, declared-off, derived-off, rest-on}
+use Rattle.judging.proofs.JudgeLaws.{read-here, declared-off, derived-off, rest-on}
 use borrow.Author.Needs.{needs}
 use Rattle.judging.proofs.judge_placed.Statement.{statement}
 use Rattle.judging.proofs.judge_placed.Tie as tie
-
--- a struct's fields fit their types: `good` has that of each parameter, `ends` is the second
-few : (e : Ends) (vs : List Val) → Is (row the-type) e vs → e .total < 18446744073709551616
-few e vs fits = fits .1 .1 .0 .1
 
 depths-of-requires : tie.Need-depths-of-requires
 depths-of-requires c κs =
@@ -28,11 +17,11 @@ returns c =
     let c5 = c .before .before .before .before .before in
     let c11 = c5 .before .before .before .before .before .before in let c13 = c11 .before .before in
     let c15 = c13 .before .before in let c20 = c15 .before .before .before .before .before in (
-      λ f x w r p. let total = c20 .args .ends .total in let k = few _ _ (c20 .good .1 .0) in let v = c15 .first-fault in
-          let d = c11 .depths-of in let s = c5 .fill-sizes in let derives = v .ensures f (early _ _ x _ _ f w _ r, p) in
+      λ f x w p r q. let total = c20 .args .ends .total in let k = p .small in let v = c15 .first-fault in
+          let d = c11 .depths-of in let s = c5 .fill-sizes in let derives = v .ensures f (p, r, q) in
           let declares = s .ensures .0 total f x k (w .read) (w .is) in let fills =
-          s .ensures .1 .0 total f x k (w .read) p (w .is) in
-          declared-off _ _ x total _ f w k _ _ (d .result) _ (s .result) (v .result) (c13 .item-count .ensures) r p
+          s .ensures .1 .0 total f x k (w .read) (p .placed) (w .is) in
+          declared-off _ _ x total _ f w _ _ (d .result) _ (s .result) (v .result) (c13 .item-count .ensures) p r
           derives declares (d .ensures) fills _ (c .before .s .given .1),
       c5 .fill-sizes .ensures .1 .1,
     )
@@ -42,11 +31,11 @@ returns-2 c =
     let c4 = c .before .before .before .before in let c8 = c4 .before .before .before .before in
     let c10 = c8 .before .before in let c12 = c10 .before .before in let c14 = c12 .before .before in
     let c19 = c14 .before .before .before .before .before in (
-      λ f x w r p. let total = c19 .args .ends .total in let k = few _ _ (c19 .good .1 .0) in let v = c14 .first-fault in
-          let d = c10 .depths-of in let s = c4 .fill-sizes in let derives = v .ensures f (early _ _ x _ _ f w _ r, p) in
+      λ f x w p r q. let total = c19 .args .ends .total in let k = p .small in let v = c14 .first-fault in
+          let d = c10 .depths-of in let s = c4 .fill-sizes in let derives = v .ensures f (p, r, q) in
           let declares = s .ensures .0 total f x k (w .read) (w .is) in let fills =
-          s .ensures .1 .0 total f x k (w .read) p (w .is) in
-          derived-off _ _ x total _ f w k _ _ (d .result) _ (s .result) (v .result) (c12 .item-count .ensures) r p derives
+          s .ensures .1 .0 total f x k (w .read) (p .placed) (w .is) in
+          derived-off _ _ x total _ f w _ _ (d .result) _ (s .result) (v .result) (c12 .item-count .ensures) p r derives
           declares (d .ensures) fills (c .enum-told .given .1) _ (c8 .d .given .1),
       c4 .fill-sizes .ensures .1 .1,
     )
@@ -56,11 +45,11 @@ returns-3 c =
     let c5 = c .before .before .before .before .before in let c10 = c5 .before .before .before .before .before in
     let c12 = c10 .before .before in let c14 = c12 .before .before in
     let c19 = c14 .before .before .before .before .before in (
-      λ f x w r p. let total = c19 .args .ends .total in let k = few _ _ (c19 .good .1 .0) in let v = c14 .first-fault in
-          let d = c10 .depths-of in let s = c5 .fill-sizes2 in let derives = v .ensures f (early _ _ x _ _ f w _ r, p) in
+      λ f x w p r q. let total = c19 .args .ends .total in let k = p .small in let v = c14 .first-fault in
+          let d = c10 .depths-of in let s = c5 .fill-sizes2 in let derives = v .ensures f (p, r, q) in
           let declares = s .ensures .0 total f x k (w .read) (w .is) in let fills =
-          s .ensures .1 .0 total f x k (w .read) p (w .is) in
-          declared-off _ _ x total _ f w k _ _ (d .result) _ (s .result) (v .result) (c12 .item-count .ensures) r p
+          s .ensures .1 .0 total f x k (w .read) (p .placed) (w .is) in
+          declared-off _ _ x total _ f w _ _ (d .result) _ (s .result) (v .result) (c12 .item-count .ensures) p r
           derives declares (d .ensures) fills _ (c .before .s2 .given .1),
       c5 .fill-sizes2 .ensures .1 .1,
     )
@@ -70,11 +59,11 @@ returns-4 c =
     let c2 = c .before .before in let c6 = c2 .before .before .before .before in let c9 = c6 .before .before .before in
     let c11 = c9 .before .before in let c13 = c11 .before .before in let c15 = c13 .before .before in
     let c20 = c15 .before .before .before .before .before in (
-      λ f x w r p. let total = c20 .args .ends .total in let k = few _ _ (c20 .good .1 .0) in let v = c15 .first-fault in
-          let d = c11 .depths-of in let s = c6 .fill-sizes2 in let derives = v .ensures f (early _ _ x _ _ f w _ r, p) in
+      λ f x w p r q. let total = c20 .args .ends .total in let k = p .small in let v = c15 .first-fault in
+          let d = c11 .depths-of in let s = c6 .fill-sizes2 in let derives = v .ensures f (p, r, q) in
           let declares = s .ensures .0 total f x k (w .read) (w .is) in let fills =
-          s .ensures .1 .0 total f x k (w .read) p (w .is) in rest-on _ _ x total _ f w k _ _ (d .result) _ (s .result)
-          (v .result) (c13 .item-count .ensures) r p derives declares (d .ensures) fills (c2 .enum-told3 .given .1)
+          s .ensures .1 .0 total f x k (w .read) (p .placed) (w .is) in rest-on _ _ x total _ f w _ _ (d .result) _ (s .result)
+          (v .result) (c13 .item-count .ensures) p r derives declares (d .ensures) fills (c2 .enum-told3 .given .1)
           (c9 .enum-told2 .given .1) _ (c .judge-pictures .ensures),
       c6 .fill-sizes2 .ensures .1 .1,
     )

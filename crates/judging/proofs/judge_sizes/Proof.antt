@@ -24,14 +24,14 @@ abbrev μ-loop : tie.MeasureT-loop
 
 -- no table that is a file's is shorter, or has more items
 returns : tie.Need-returns Inv-loop μ-loop
-returns c = λ total f d. absurd (omega (arith, d .view .enough, c .if1 .taken))
+returns c = λ total f d. absurd (omega (arith, d .followed .view .enough, c .if1 .taken))
 
 returns-2 : tie.Need-returns-2 Inv-loop μ-loop
 returns-2 c =
     λ total f d. absurd (omega (
       arith,
-      d .view .items,
-      d .view .bounded .few-items,
+      d .followed .view .items,
+      d .followed .view .bounded .few-items,
       c .before .item-count .ensures,
       c .if2 .taken,
     ))
@@ -50,9 +50,9 @@ loop-again c =
     let w = c .before .record-word in (
       omega arith,
       λ total f d. let s = sceneOf total (a .head .now) f in let l = q .inv .1 total f d in
-          let h : q .k < length (f .items) = omega (arith, d .view .items, c5 .item-count .ensures) in let e =
+          let h : q .k < length (f .items) = omega (arith, d .followed .view .items, c5 .item-count .ensures) in let e =
           deep-word total (a .head .now) f d (q .k) h (w .result)
-          (w .ensures (omega (arith, d .view .bounded .few-items))) in ⊎-elim (λ z. least-same s f _ _ _ _ _ (z .3) (z .4)
+          (w .ensures (omega (arith, d .followed .view .bounded .few-items))) in ⊎-elim (λ z. least-same s f _ _ _ _ _ (z .3) (z .4)
           (least-more s f (q .k) (q .depth) (q .named) l (w .result) e (z .0 .taken)
           (sym (z .1 .ensures total f d h) ∙ z .2 .taken))) (⊎-elim
           (λ z. least-same s f _ _ _ _ _ (z .3) (z .4)
@@ -67,7 +67,7 @@ returns-3 c =
     let c2 = c .before .before in let c4 = c2 .before .before in let c9 = c4 .before .before .before .before .before in
     let q = c2 .loop in
     λ total f d. least-none (sceneOf total (c9 .args .head .now) f) f (q .k) (q .depth) (q .named) (q .inv .1 total f d)
-    (omega (arith, d .view .items, c4 .item-count .ensures)) (omega (arith, c .if5 .taken))
+    (omega (arith, d .followed .view .items, c4 .item-count .ensures)) (omega (arith, c .if5 .taken))
 
 returns-4 : tie.Need-returns-4 Inv-loop μ-loop
 returns-4 c =
@@ -77,11 +77,11 @@ returns-4 c =
     λ total f d.
     let s = sceneOf total (c11 .args .head .now) f in
     let l = q .inv .1 total f d in
-    let all : q .k ≡ length (f .items) = omega (arith, d .view .items, c6 .item-count .ensures) in
+    let all : q .k ≡ length (f .items) = omega (arith, d .followed .view .items, c6 .item-count .ensures) in
     let one : q .depth < 17 = omega (arith, l .shallow, c2 .if5 .left) in
     let h = least-row s f (q .k) (q .depth) (q .named) l all one in
     least-named s f (q .k) (q .depth) (q .named) l all one _
-    (c .before .id-of .ensures (omega (arith, h, d .view .bounded .few-items)) ∙ d .view .id (q .named) h)
+    (c .before .id-of .ensures (omega (arith, h, d .followed .view .bounded .few-items)) ∙ d .followed .view .id (q .named) h)
 
 pub judge-sizes-spec : {M : Type 1} → statement M
 judge-sizes-spec =

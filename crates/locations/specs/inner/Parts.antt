@@ -7,8 +7,8 @@
 --   Located t n used ls  the table t of n items says which of them have an entry in ls, which has so many extents
 use Prim.Native.Nat.{ℕ, zero, suc, _+_, _*_, _/_, _%_, _<_, _≤_}
 use mathlib.Core.Path.{_≡_}
-use mathlib.Core.List.{List, [], _∷_, _++_}
-use mathlib.Core.Bool.{true, false, _||_, not}
+use mathlib.Core.List.{List, [], _∷_, _++_, map}
+use mathlib.Core.Bool.{Bool, true, false, _||_, not}
 use mathlib.Core.Logic.{_⊎_}
 use lib.ListN.{length, getD, drop}
 use lib.Seq.{sets}
@@ -18,13 +18,14 @@ use Rattle.fields.specs.Field.{beAt}
 use Rattle.fields.specs.Lists.{member}
 use Rattle.boxes.specs.Answer.{Answer, ok, refuse}
 use Rattle.forms.specs.Form.{Form, Got, got, give, demand, field, many, _>>=_, _>>_}
-use Rattle.contents.specs.Iloc.{Extent, Location, locatedIn, extentsIn, fieldSize, extent-form}
+use Rattle.contents.specs.Iloc.{Extent, Location, locatedIn, extentsIn, fieldSize, indexOf, extent-form}
 use Rattle.contents.specs.File.{File}
 use Rattle.rules.specs.Places.{Places}
 use Rattle.rules.specs.Words.{joinAll, highLow}
 use Rattle.records.specs.inner.Raw.{capped, rawOf}
 use Rattle.records.specs.inner.Rows.{idAt, idsIn}
 use Rattle.records.specs.inner.Stage.{Kept, Ready, withLocations}
+use Rattle.records.specs.inner.Named.{markOf}
 use Rattle.locations.specs.declared.Widths.{Widths}
 use Rattle.locations.specs.declared.Rest.{Rest}
 use Rattle.locations.specs.declared.Sizes.{Sizes}
@@ -133,7 +134,7 @@ each w = w .index + w .offset + w .length
 
 -- i, o and l are the widths of index, offset and length
 abbrev pub extentAt : ℕ → ℕ → ℕ → List ℕ → ℕ → Extent
-extentAt i o l s at = record { index = beAt s at i; offset = beAt s (at + i) o; size = beAt s (at + i + o) l }
+extentAt i o l s at = record { index = indexOf i (beAt s at i); offset = beAt s (at + i) o; size = beAt s (at + i + o) l }
 
 unfoldable pub extentsAt : ℕ → ℕ → ℕ → List ℕ → ℕ → ℕ → List Extent
 extentsAt i o l s at zero = []
@@ -211,8 +212,16 @@ abbrev pub StoredAre : Widths → List ℕ → ℕ → ℕ → List ℕ → List
 StoredAre w s at place t u r x used idat (put.Is end k q) = StoredHere w s at t u r x used idat end k (q .0)
 StoredAre w s at place t u r x used idat (put.Refused f) = (u ≡ t) × (f .number ≡ 8) × (f .place ≡ place) × (length s < at + x .extents * each w)
 
--- an entry, into the table t, which is then u
-pub record PutHere (t u : List ℕ) (n : ℕ) (w : Widths) (used place : ℕ) (s : List ℕ) (at idat end k r : ℕ) : Type 0 where
+-- the marks of the extents es of an entry, of method 2 or not, in v, which is then y
+abbrev pub markedAt : ℕ → Bool → List Extent → List ℕ → List ℕ
+markedAt used made es v = sets v (2304 + used) (pick made (map (λ (e : Extent). markOf (e .index)) es) [])
+
+abbrev pub MarkedAre : ℕ → Bool → List Extent → List ℕ → List ℕ → EntryPut → Type 0
+MarkedAre used made es v y (put.Is end k q) = y ≡ markedAt used made es v
+MarkedAre used made es v y (put.Refused f) = y ≡ v
+
+-- an entry, into the table t, which is then u, and its marks into v, which is then y
+pub record PutHere (t u v y : List ℕ) (n : ℕ) (w : Widths) (used place : ℕ) (s : List ℕ) (at idat end k r : ℕ) : Type 0 where
   pub room : end ≤ length s
   pub few : used + k ≤ 512
   pub below : r < n
@@ -224,13 +233,14 @@ pub record PutHere (t u : List ℕ) (n : ℕ) (w : Widths) (used place : ℕ) (s
       (sets t (9232 + 4 * used) (joinAll (rowFrom (startOf idat (location .method) (location .base))) (location .extents)))
       (16 + 16 * r + 7)
       (pick (eqb k 0) 0 used ∷ k ∷ location .method ∷ location .reference ∷ 1 ∷ [])
+  pub marked : y ≡ markedAt used (eqb (location .method) 2) (location .extents) v
   pub new : (ls : List Location) → Located t n used ls → member (location .id) (locatedIn ls) ≡ false
   pub read : (ls : List Location) → Located t n used ls → entry-by (idsIn t n) w ls .read place (drop at s) ≡ got location (drop end s)
 
-abbrev pub PutAre : List ℕ → List ℕ → ℕ → Widths → ℕ → ℕ → List ℕ → ℕ → ℕ → EntryPut → Type 0
-PutAre t u n w used place s at idat (put.Is end k r) = PutHere t u n w used place s at idat end k (r .0)
-PutAre t u n w used place s at idat (put.Refused f) =
-    (u ≡ t) × ((ls : List Location) → Located t n used ls → entry-by (idsIn t n) w ls .read place (drop at s) ≡ refuse (f .number) (f .place))
+abbrev pub PutAre : List ℕ → List ℕ → List ℕ → List ℕ → ℕ → Widths → ℕ → ℕ → List ℕ → ℕ → ℕ → EntryPut → Type 0
+PutAre t u v y n w used place s at idat (put.Is end k r) = PutHere t u v y n w used place s at idat end k (r .0)
+PutAre t u v y n w used place s at idat (put.Refused f) =
+    (u ≡ t) × (y ≡ v) × ((ls : List Location) → Located t n used ls → entry-by (idsIn t n) w ls .read place (drop at s) ≡ refuse (f .number) (f .place))
 
 -- all entries, a being what their form answers
 pub record EntriesLeft (a : Answer (List Location)) (n idat : ℕ) (t u : List ℕ) : Type 0 where

@@ -5,10 +5,10 @@ use Rattle.numbers.proofs.main.Statement.{statement}
 use Rattle.numbers.proofs.main.Tie as tie
 
 abbrev Inv-loop : tie.InvT-loop
-Inv-loop number₀ number = number ≤ 30
+Inv-loop number₀ number = number ≤ 32
 
 abbrev μ-loop : tie.MeasureT-loop
-μ-loop number₀ number = 30 - number
+μ-loop number₀ number = 32 - number
 
 pub main-spec : {M : Type 1} → statement M
 main-spec =

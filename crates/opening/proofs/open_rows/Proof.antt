@@ -15,7 +15,7 @@ judge-requires c κs =
     let r = c9 .read-file .ensures in
     let is = c3 .r2 .given .1 in
     let k = read-on (a .total) (a .head .now) (a .table .now) _ _ _ (sym (r .0) ∙ is) (r .1 .0) in
-    ((k .1 .0, drop 11280 (a .table .now), k .1 .1), r .1 .1 _ _ is .0)
+    ((k .1 .0, drop 11280 (a .table .now), k .1 .1), r .1 .1 .0 _ _ is .0, omega (arith, c15 .pre, c9 .read-file .kept .1 .1 .1 .0))
 
 returns : tie.Need-returns
 returns c =
@@ -36,10 +36,11 @@ returns-2 c =
     let r = read .ensures in
     let is = c8 .r2 .given .1 in
     let k = read-on (a .total) (a .head .now) (a .table .now) _ _ _ (sym (r .0) ∙ is) (r .1 .0) in
-    let j = c4 .judge .ensures .0 (k .1 .0) (drop 11280 (a .table .now)) (k .1 .1) in
+    let named = r .1 .1 .1 (k .1 .0) (k .0) (k .1 .1 .read) in
+    let j = c4 .judge .ensures .0 (k .1 .0) (drop 11280 (a .table .now)) (k .1 .1) named in
     let good = sym (c .enum-told .given .1) ∙ j .answer in
     let rowed = judged-rowed (a .total) (a .head .now) (omega (arith, c20 .fits .total)) _ (k .1 .0) _ _ _
-    (read .last .1 .1 .1 .0) (k .1 .1) (r .1 .1 _ _ is) good (j .left) in (
+    (read .last .1 .1 .1 .0) (k .1 .1) (r .1 .1 .0 _ _ is) (omega (arith, c20 .pre, read .kept .1 .1 .1 .0)) named good (j .left) in (
       judged-on (a .total) (a .head .now) (a .table .now) (k .0) (k .1 .0) (k .1 .1 .read) good _ (j .left),
       λ f e. rowed f,
     )
@@ -54,7 +55,7 @@ returns-3 c =
     let r = read .ensures in
     let judge = c9 .judge in
     let k = read-on (a .total) (a .head .now) (a .table .now) _ _ _ (sym (r .0) ∙ c13 .r2 .given .1) (r .1 .0) in
-    let j = judge .ensures .0 (k .1 .0) (drop 11280 (a .table .now)) (k .1 .1) in
+    let j = judge .ensures .0 (k .1 .0) (drop 11280 (a .table .now)) (k .1 .1) (r .1 .1 .1 (k .1 .0) (k .0) (k .1 .1 .read)) in
     let behind = judge .ensures .1 ∙ read-behind (a .total) (a .head .now) (a .table .now) _ _ _ (k .1 .0) (k .1 .1) in
     let o = judged-off (a .total) (a .head .now) (a .table .now) (k .0) (k .1 .0) (k .1 .1 .read) _
     (sym (c5 .j .given .1) ∙ j .answer) _ _ (c2 .clear .ensures) behind

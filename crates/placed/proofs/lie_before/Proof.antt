@@ -31,7 +31,7 @@ returns c =
     let q = c .before .extent-of .ensures head pl f v h (omega arith) in
     extents-fail _ _ (c3 .loop .j) (c3 .loop .inv head pl f v h) (omega arith)
     (ends-empty (c6 .args .end) _ _ (c .before .extent-of .result .offset) (c .before .extent-of .result .size)
-    (c6 .fits .end) (q .1) (q .0) (c .if1 .taken)) ∙ extents-both _ _ _
+    (omega (arith, c6 .fits .end)) (q .1) (q .0) (c .if1 .taken)) ∙ extents-both _ _ _
 
 returns-2 : tie.Need-returns-2 Inv-loop μ-loop
 returns-2 c =
@@ -40,7 +40,7 @@ returns-2 c =
     let l = extents-count v (c7 .args .row .0) _ h (c5 .record-word .ensures) in
     let q = c2 .extent-of .ensures head pl f v h (omega arith) in
     extents-fail _ _ (c4 .loop .j) (c4 .loop .inv head pl f v h) (omega arith)
-    (ends-past (c7 .args .end) _ _ (c2 .extent-of .result .offset) (c2 .extent-of .result .size) (c7 .fits .end)
+    (ends-past (c7 .args .end) _ _ (c2 .extent-of .result .offset) (c2 .extent-of .result .size) (omega (arith, c7 .fits .end))
     (q .1) (q .0) (omega arith)) ∙ extents-both _ _ _
 
 returns-3 : tie.Need-returns-3 Inv-loop μ-loop
@@ -51,7 +51,7 @@ returns-3 c =
     let l = extents-count v (c8 .args .row .0) _ h (c6 .record-word .ensures) in
     let q = c3 .extent-of .ensures head pl f v h (omega arith) in
     extents-fail _ _ (c5 .loop .j) (c5 .loop .inv head pl f v h) (omega arith)
-    (ends-past (c8 .args .end) _ _ (c3 .extent-of .result .offset) (c3 .extent-of .result .size) (c8 .fits .end)
+    (ends-past (c8 .args .end) _ _ (c3 .extent-of .result .offset) (c3 .extent-of .result .size) (omega (arith, c8 .fits .end))
     (q .1) (q .0) (omega arith)) ∙ extents-both _ _ _
 
 loop-again : tie.Need-loop-again Inv-loop μ-loop
@@ -62,7 +62,7 @@ loop-again c =
     let l = extents-count v (c8 .args .row .0) _ h (c6 .record-word .ensures) in
     let q = c3 .extent-of .ensures head pl f v h (omega arith) in
     extents-on _ _ (c5 .loop .j) (c5 .loop .inv head pl f v h) (omega arith)
-    (ends-before (c8 .args .end) _ _ (c3 .extent-of .result .offset) (c3 .extent-of .result .size) (c8 .fits .end)
+    (ends-before (c8 .args .end) _ _ (c3 .extent-of .result .offset) (c3 .extent-of .result .size) (omega (arith, c8 .fits .end))
     (q .1) (q .0) (omega arith) (c2 .if1 .left))
 
 returns-4 : tie.Need-returns-4 Inv-loop μ-loop

@@ -1,8 +1,10 @@
 -- `reading::read_children` meets its contract. Assumes nothing.
 use mathlib.Core.Path.{sym, _∙_}
+use mathlib.Core.List.{[]}
 use Rattle.records.proofs.KeptLaws.{kept-same}
-use Rattle.reading.proofs.TopStage.{walk-refused-after, missing-after, whole-standing, whole-after}
+use Rattle.reading.proofs.TopStage.{walk-refused-after, missing-after, whole-standing, whole-is, whole-after}
 use borrow.Author.Needs.{needs}
+use Rattle.reading.proofs.NamedLaws.{same-named, refused-none}
 use Rattle.reading.proofs.RowedLaws.{no-reading}
 use Rattle.reading.proofs.read_children.Statement.{statement}
 use Rattle.reading.proofs.read_children.Tie as tie
@@ -15,7 +17,15 @@ returns c =
     let m = c .before .is-missing in (
       λ x w. missing-after (a .place) (a .at) (a .total) (a .s .now) (q .result .spots)
           (sym (q .ensures .0) ∙ c2 .enum-told .given .1) (q .ensures .1) _ (m .ensures) (c .if1 .taken) x _,
-      (kept-same _, λ i e q. no-reading _ i e q),
+      (
+        kept-same _,
+        (
+          λ i e q. no-reading _ i e q,
+          λ g e. refused-none _ _ _ (missing-after (a .place) (a .at) (a .total) (a .s .now) (q .result .spots)
+              (sym (q .ensures .0) ∙ c2 .enum-told .given .1) (q .ensures .1) _ (m .ensures) (c .if1 .taken) [] []
+              .answer) g e,
+        ),
+      ),
     )
 
 read-contents-requires : tie.Need-read-contents-requires
@@ -40,7 +50,14 @@ returns-2 c =
     let a = c8 .args in (
       λ x w. walk-refused-after (a .place) (a .at) (a .total) (a .s .now) _ x _
           (sym (c4 .walk-children .ensures .0) ∙ c .before .a .given .1),
-      (kept-same _, λ i e q. no-reading _ i e q),
+      (
+        kept-same _,
+        (
+          λ i e q. no-reading _ i e q,
+          λ g e. refused-none _ _ _ (walk-refused-after (a .place) (a .at) (a .total) (a .s .now) _ [] []
+              (sym (c4 .walk-children .ensures .0) ∙ c .before .a .given .1) .answer) g e,
+        ),
+      ),
     )
 
 returns-3 : tie.Need-returns-3
@@ -53,7 +70,15 @@ returns-3 c =
       λ x w. whole-after (a .place) (a .at) (a .total) (a .s .now) (q .result .spots)
           (sym (q .ensures .0) ∙ c9 .enum-told .given .1) (q .ensures .1) _ (m .ensures) (c7 .if1 .left) _ x _
           (c4 .read-contents .ensures .0 x w),
-      c4 .read-contents .ensures .1,
+      (
+        c4 .read-contents .ensures .1 .0,
+        (
+          c4 .read-contents .ensures .1 .1 .0,
+          same-named _ _ (whole-is (a .place) (a .at) (a .total) (a .s .now) (q .result .spots)
+              (sym (q .ensures .0) ∙ c9 .enum-told .given .1) (q .ensures .1) _ (m .ensures) (c7 .if1 .left))
+              (c4 .read-contents .ensures .1 .1 .1),
+        ),
+      ),
     )
 
 pub read-children-spec : {M : Type 1} → statement M

@@ -1,10 +1,12 @@
 -- `reading::read_contents` meets its contract. Assumes nothing.
 use mathlib.Core.Path.{sym, _∙_}
+use mathlib.Core.List.{[]}
 use lib.ListN.{getD}
 use native.Mathlib.Omega.{arith}
 use Rattle.records.proofs.KeptLaws.{kept-same}
-use Rattle.reading.proofs.TopStage.{hdlr-spot, pitm-spot, spot-room, hdlr-refused-after, pitm-refused-after, pitm-after}
+use Rattle.reading.proofs.TopStage.{hdlr-spot, pitm-spot, spot-room, hdlr-refused-after, pitm-refused-after, pitm-on, pitm-after}
 use borrow.Author.Needs.{needs}
+use Rattle.reading.proofs.NamedLaws.{same-named, refused-none}
 use Rattle.reading.proofs.RowedLaws.{no-reading}
 use Rattle.reading.proofs.read_contents.Statement.{statement}
 use Rattle.reading.proofs.read_contents.Tie as tie
@@ -105,7 +107,16 @@ returns c =
       λ x w. hdlr-refused-after (a .s .now) (a .at) (a .total) (getD (a .t3) 0 (record { start = 0; body = 0; end = 0 }))
           (getD (a .t3) 1 (record { start = 0; body = 0; end = 0 })) i j _ x _
           (sym (c3 .read-hdlr .ensures) ∙ c .before .t .given .1),
-      (kept-same _, λ i e q. no-reading _ i e q),
+      (
+        kept-same _,
+        (
+          λ i e q. no-reading _ i e q,
+          λ g e. refused-none _ _ _ (hdlr-refused-after (a .s .now) (a .at) (a .total)
+              (getD (a .t3) 0 (record { start = 0; body = 0; end = 0 }))
+              (getD (a .t3) 1 (record { start = 0; body = 0; end = 0 })) i j _ [] []
+              (sym (c3 .read-hdlr .ensures) ∙ c .before .t .given .1) .answer) g e,
+        ),
+      ),
     )
 
 returns-2 : tie.Need-returns-2
@@ -120,7 +131,17 @@ returns-2 c =
           (getD (a .t3) 1 (record { start = 0; body = 0; end = 0 })) i j
           (sym (c7 .read-hdlr .ensures) ∙ c5 .enum-told .given .1) _ x _
           (sym (c3 .read-pitm .ensures) ∙ c .before .q .given .1),
-      (kept-same _, λ i e q. no-reading _ i e q),
+      (
+        kept-same _,
+        (
+          λ i e q. no-reading _ i e q,
+          λ g e. refused-none _ _ _ (pitm-refused-after (a .s .now) (a .at) (a .total)
+              (getD (a .t3) 0 (record { start = 0; body = 0; end = 0 }))
+              (getD (a .t3) 1 (record { start = 0; body = 0; end = 0 })) i j
+              (sym (c7 .read-hdlr .ensures) ∙ c5 .enum-told .given .1) _ [] []
+              (sym (c3 .read-pitm .ensures) ∙ c .before .q .given .1) .answer) g e,
+        ),
+      ),
     )
 
 returns-3 : tie.Need-returns-3
@@ -136,7 +157,17 @@ returns-3 c =
           (getD (a .t3) 1 (record { start = 0; body = 0; end = 0 })) i j
           (sym (c14 .read-hdlr .ensures) ∙ c12 .enum-told .given .1) _ _ x _
           (sym (c10 .read-pitm .ensures) ∙ c8 .q2 .given .1) (c4 .read-iinf .ensures .0 x w),
-      c4 .read-iinf .ensures .1,
+      (
+        c4 .read-iinf .ensures .1 .0,
+        (
+          c4 .read-iinf .ensures .1 .1 .0,
+          same-named _ _ (pitm-on (a .s .now) (a .at) (a .total)
+              (getD (a .t3) 0 (record { start = 0; body = 0; end = 0 }))
+              (getD (a .t3) 1 (record { start = 0; body = 0; end = 0 })) i j
+              (sym (c14 .read-hdlr .ensures) ∙ c12 .enum-told .given .1) _
+              (sym (c10 .read-pitm .ensures) ∙ c8 .q2 .given .1)) (c4 .read-iinf .ensures .1 .1 .1),
+        ),
+      ),
     )
 
 pub read-contents-spec : {M : Type 1} → statement M

@@ -1,8 +1,11 @@
 -- `reading::read_file` meets its contract. Assumes nothing.
+use native.Mathlib.Omega.{arith}
 use mathlib.Core.Path.{_∙_}
 use lib.ListN.{drop}
 use Rattle.reading.proofs.TopStage.{clear-is, clear-room, table-short, head-long, head-short, head-refused, head-read}
 use borrow.Author.Needs.{needs}
+use Rattle.reading.proofs.MetaLaws.{read-long, read-short}
+use Rattle.reading.proofs.NamedLaws.{no-file}
 use Rattle.reading.proofs.RowedLaws.{no-reading}
 use Rattle.reading.proofs.read_file.Statement.{statement}
 use Rattle.reading.proofs.read_file.Tie as tie
@@ -12,15 +15,23 @@ returns c =
     let c4 = c .before .before .before .before in
     let a = c4 .args in
     let p = table-short (a .total) (a .head .now) (a .table .now) (c .if1 .taken) in
-    (p .0, (p .1, λ i e q. no-reading _ i e q))
+    (p .0, (p .1, (λ i e q. no-reading _ i e q, λ f l e. absurd (omega (arith, c .if1 .taken)))))
 
 returns-2 : tie.Need-returns-2
 returns-2 c =
     let c3 = c .before .before .before in let c5 = c3 .before .before in let c9 = c5 .before .before .before .before in
     let a = c9 .args in
     let p = head-long (a .total) (a .head .now) (a .table .now) (c5 .if1 .left) _ (c3 .clear .ensures) (c .if2 .taken)
-    in
-    (p .0, (p .1, λ i e q. no-reading _ i e q))
+    in (
+      p .0,
+      (
+        p .1,
+        (
+          λ i e q. no-reading _ i e q,
+          λ f l. no-file _ _ _ (read-long (a .total) (a .head .now) (c .if2 .taken)) f,
+        ),
+      ),
+    )
 
 returns-3 : tie.Need-returns-3
 returns-3 c =
@@ -28,8 +39,16 @@ returns-3 c =
     let c10 = c6 .before .before .before .before in
     let a = c10 .args in
     let p = head-short (a .total) (a .head .now) (a .table .now) (c6 .if1 .left) _ (c4 .clear .ensures)
-    (c .before .if2 .left) (c .if3 .taken) in
-    (p .0, (p .1, λ i e q. no-reading _ i e q))
+    (c .before .if2 .left) (c .if3 .taken) in (
+      p .0,
+      (
+        p .1,
+        (
+          λ i e q. no-reading _ i e q,
+          λ f l. no-file _ _ _ (read-short (a .total) (a .head .now) (c .before .if2 .left) (c .if3 .taken)) f,
+        ),
+      ),
+    )
 
 read-head-requires : tie.Need-read-head-requires
 read-head-requires c κs =
@@ -55,7 +74,7 @@ returns-4 c =
     let p = head-refused (a .total) (a .head .now) (a .table .now) (c20 .if1 .left) _ _ _ _ _ (c18 .clear .ensures)
     (c11 .read-head .ensures .1 .0) (c11 .read-head .ensures .0 (drop 11280 (a .table .now))
     (c18 .clear .ensures ∙ clear-is (a .table .now) (c20 .if1 .left))) (c5 .r .given .1) (c2 .clear2 .ensures) in
-    (p .0, (p .1, λ i e q. no-reading _ i e q))
+    (p .0, (p .1, (λ i e q. no-reading _ i e q, λ f l. c11 .read-head .ensures .1 .1 .1 f)))
 
 returns-5 : tie.Need-returns-5
 returns-5 c =
@@ -65,8 +84,16 @@ returns-5 c =
     let a = c20 .args in
     let p = head-read (a .total) (a .head .now) (a .table .now) (c16 .if1 .left) _ _ _ _
     (c7 .read-head .ensures .0 (drop 11280 (a .table .now))
-    (c14 .clear .ensures ∙ clear-is (a .table .now) (c16 .if1 .left))) (c .before .r2 .given .1) in
-    (p .0, (p .1, λ i e q. c7 .read-head .ensures .1 .1 _ _ (c .before .r2 .given .1)))
+    (c14 .clear .ensures ∙ clear-is (a .table .now) (c16 .if1 .left))) (c .before .r2 .given .1) in (
+      p .0,
+      (
+        p .1,
+        (
+          λ i e q. c7 .read-head .ensures .1 .1 .0 _ _ (c .before .r2 .given .1),
+          λ f l. c7 .read-head .ensures .1 .1 .1 f,
+        ),
+      ),
+    )
 
 pub read-file-spec : {M : Type 1} → statement M
 read-file-spec =

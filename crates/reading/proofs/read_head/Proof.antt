@@ -1,9 +1,11 @@
 -- `reading::read_head` meets its contract. Assumes nothing.
 use mathlib.Core.Path.{sym, _∙_}
+use mathlib.Core.List.{[]}
 use native.Mathlib.Omega.{arith}
 use Rattle.records.proofs.KeptLaws.{kept-same}
-use Rattle.reading.proofs.TopStage.{meta-refused-left, meta-room, meta-length, meta-left}
+use Rattle.reading.proofs.TopStage.{meta-refused-left, meta-room, meta-length, meta-file, meta-left}
 use borrow.Author.Needs.{needs}
+use Rattle.reading.proofs.NamedLaws.{same-named, refused-none}
 use Rattle.reading.proofs.RowedLaws.{no-reading}
 use Rattle.reading.proofs.read_head.Statement.{statement}
 use Rattle.reading.proofs.read_head.Tie as tie
@@ -54,7 +56,14 @@ returns c =
     let a = k .args in (
       λ x w. meta-refused-left (a .total) (a .head .now) (k .pre .0) (k .pre .1) _ x _
           (sym (c3 .find-meta .ensures) ∙ c .before .m .given .1),
-      (kept-same _, λ i e q. no-reading _ i e q),
+      (
+        kept-same _,
+        (
+          λ i e q. no-reading _ i e q,
+          λ g e. refused-none _ _ _ (meta-refused-left (a .total) (a .head .now) (k .pre .0) (k .pre .1) _ [] []
+              (sym (c3 .find-meta .ensures) ∙ c .before .m .given .1) .answer) g e,
+        ),
+      ),
     )
 
 returns-2 : tie.Need-returns-2
@@ -65,7 +74,14 @@ returns-2 c =
     let a = k .args in (
       λ x w. meta-left (a .total) (a .head .now) (k .pre .0) (k .pre .1) _ _ _
           (sym (c11 .find-meta .ensures) ∙ c9 .m2 .given .1) _ x _ (c4 .read-meta .ensures .0 x w),
-      c4 .read-meta .ensures .1,
+      (
+        c4 .read-meta .ensures .1 .0,
+        (
+          c4 .read-meta .ensures .1 .1 .0,
+          same-named _ _ (meta-file (a .total) (a .head .now) (k .pre .0) (k .pre .1) _ _ _
+              (sym (c11 .find-meta .ensures) ∙ c9 .m2 .given .1)) (c4 .read-meta .ensures .1 .1 .1),
+        ),
+      ),
     )
 
 pub read-head-spec : {M : Type 1} → statement M

@@ -1,13 +1,15 @@
 -- `reading::read_iinf` meets its contract. Assumes nothing.
 use mathlib.Core.Path.{refl, sym, _∙_}
+use mathlib.Core.List.{[]}
 use lib.ListN.{getD, length-map}
 use Rattle.contents.specs.Iinf.{idsOf}
 use native.Mathlib.Omega.{arith}
 use Rattle.records.proofs.KeptLaws.{kept-on}
 use Rattle.reading.proofs.TopStage.{iinf-spot, spot-room, iinf-refused, iinf-begins, iinf-after}
 use borrow.Author.Needs.{needs}
+use Rattle.reading.proofs.NamedLaws.{same-named, refused-none}
 use Rattle.reading.proofs.RowedLaws.{no-reading}
-use Rattle.reading.proofs.OrderLaws.{order-rowed, read-counted}
+use Rattle.reading.proofs.OrderLaws.{order-rowed, order-named, read-counted}
 use Rattle.reading.proofs.read_iinf.Statement.{statement}
 use Rattle.reading.proofs.read_iinf.Tie as tie
 
@@ -111,7 +113,15 @@ returns c =
     let i = iinf-spot (a .s .now) (a .at) (a .t3) (k .pre .0) in (
       λ x w. iinf-refused (a .s .now) (a .at) (getD (a .t3) 2 (record { start = 0; body = 0; end = 0 })) i
           (a .primary .0) (a .total) _ x _ (sym (c5 .read-items .ensures .0) ∙ c .before .t .given .1),
-      (c5 .read-items .ensures .1 .0 .kept, λ i e q. no-reading _ i e q),
+      (
+        c5 .read-items .ensures .1 .0 .kept,
+        (
+          λ i e q. no-reading _ i e q,
+          λ g e. refused-none _ _ _ (iinf-refused (a .s .now) (a .at)
+              (getD (a .t3) 2 (record { start = 0; body = 0; end = 0 })) i (a .primary .0) (a .total) _ [] []
+              (sym (c5 .read-items .ensures .0) ∙ c .before .t .given .1) .answer) g e,
+        ),
+      ),
     )
 
 returns-2 : tie.Need-returns-2
@@ -122,7 +132,12 @@ returns-2 c =
     let k = c26 in
     let a = k .args in
     let l = c9 .read-iloc in
-    let i = iinf-spot (a .s .now) (a .at) (a .t3) (k .pre .0) in (
+    let i = iinf-spot (a .s .now) (a .at) (a .t3) (k .pre .0) in
+    let b = iinf-begins (a .s .now) (a .at) (getD (a .t3) 2 (record { start = 0; body = 0; end = 0 })) i (a .primary .0)
+    (a .total) _ (k .pre .4 .0) _ _ (sym (c18 .read-items .ensures .0) ∙ c14 .t2 .given .1) (k .pre .4 .1)
+    (c18 .read-items .ensures .1 .0) in
+    let m = length-map (b .list) _ ∙ b .before .ready .count in
+    let order = c2 .put-order .ensures (idsOf (b .list)) m (c18 .read-items .ensures .1 .1 _ (b .read)) in (
       λ x w. let b = iinf-begins (a .s .now) (a .at) (getD (a .t3) 2 (record { start = 0; body = 0; end = 0 })) i
           (a .primary .0) (a .total) _ x _ _ (sym (c18 .read-items .ensures .0) ∙ c14 .t2 .given .1) w
           (c18 .read-items .ensures .1 .0) in iinf-after (a .s .now) (a .at)
@@ -130,16 +145,16 @@ returns-2 c =
           (l .ensures .0),
       (
         kept-on _ _ _ (c18 .read-items .ensures .1 .0 .kept) (l .ensures .1 .0),
-        λ d e q.
-            let b = iinf-begins (a .s .now) (a .at) (getD (a .t3) 2 (record { start = 0; body = 0; end = 0 })) i
-            (a .primary .0) (a .total) _ (k .pre .4 .0) _ _ (sym (c18 .read-items .ensures .0) ∙ c14 .t2 .given .1)
-            (k .pre .4 .1) (c18 .read-items .ensures .1 .0) in
-            let m = length-map (b .list) _ ∙ b .before .ready .count in
-            let o = read-counted (a .s .now) (a .at) (a .total) (a .primary .0) _ (b .list) _ (k .pre .4 .0) _
-            (b .before .ready .count) (l .ensures .0 (b .list) (k .pre .4 .0) (b .before)) d e q in
-            order-rowed (idsOf (b .list)) (l .last .1 .1 .1 .1 .0) (omega (arith, l .kept .1 .1 .1 .1 .0, k .pre .3)) _ _ _
-            (c2 .put-order .ensures (idsOf (b .list)) m (c18 .read-items .ensures .1 .1 _ (b .read))) (o .items) m
-            (o .ids) (o .targets) (l .ensures .1 .1 d e q),
+        (
+          λ d e q.
+              let o = read-counted (a .s .now) (a .at) (a .total) (a .primary .0) _ (b .list) _ (k .pre .4 .0) _
+              (b .before .ready .count) (l .ensures .0 (b .list) (k .pre .4 .0) (b .before)) d e q in
+              order-rowed (idsOf (b .list)) (l .last .1 .1 .1 .1 .0) (omega (arith, l .kept .1 .1 .1 .1 .0, k .pre .3)) _ _ _
+              order (o .items) m (o .ids) (o .targets) (l .ensures .1 .1 .0 d e q),
+          order-named (idsOf (b .list)) (l .last .1 .1 .1 .1 .0) (omega (arith, l .kept .1 .1 .1 .1 .0, k .pre .3))
+              (omega (arith, m, b .before .ready .count, b .before .ready .bounded .few-items)) _ order _
+              (same-named _ _ (b .on) (l .ensures .1 .1 .1 (b .list) (k .pre .4 .0) (b .before))),
+        ),
       ),
     )
 

@@ -2,10 +2,12 @@
 use borrow.Author.Needs.{needs}
 use native.Mathlib.Omega.{arith}
 use mathlib.Core.Path.{refl, sym, _∙_}
+use mathlib.Core.List.{[]}
 use Rattle.records.proofs.KeptLaws.{kept-on}
 use Rattle.reading.proofs.StageLaws.{after-same}
 use Rattle.reading.proofs.LastLaws.{part-room}
 use Rattle.reading.proofs.NextLaws.{iprp-within, iprp-gone, iprp-on}
+use Rattle.reading.proofs.NamedLaws.{same-named, refused-none}
 use Rattle.reading.proofs.RowedLaws.{no-reading}
 use Rattle.reading.proofs.read_iprp.Statement.{statement}
 use Rattle.reading.proofs.read_iprp.Tie as tie
@@ -67,7 +69,15 @@ returns c =
     let a = c12 .args in (
       (λ is ls x b e. iprp-gone (a .s .now) (a .at) _ (c12 .pre .0) (a .n) is ls x _ b _ refl (a .total) (a .primary .0)
           _ (sym (c5 .read-iprp-content .ensures .0) ∙ c .before .t .given .1) _),
-      (c5 .read-iprp-content .ensures .1 .kept, λ i e q. no-reading _ i e q),
+      (
+        c5 .read-iprp-content .ensures .1 .kept,
+        (
+          λ i e q. no-reading _ i e q,
+          λ is ls x b e n g q. refused-none _ _ _ (iprp-gone (a .s .now) (a .at) _ (c12 .pre .0) (a .n) is ls x _ b _
+              refl (a .total) (a .primary .0) _ (sym (c5 .read-iprp-content .ensures .0) ∙ c .before .t .given .1) []
+              .answer) g q,
+        ),
+      ),
     )
 
 returns-2 : tie.Need-returns-2
@@ -83,7 +93,14 @@ returns-2 c =
       (
         kept-on _ _ _ (c12 .read-iprp-content .ensures .1 .kept)
             (c4 .read-last .ensures .1 .0),
-        c4 .read-last .ensures .1 .1,
+        (
+          c4 .read-last .ensures .1 .1 .0,
+          λ is ls x b e n.
+              let o = iprp-on (a .s .now) (a .at) _ (c19 .pre .0) (a .n) is ls x _ b _ refl _ _
+              (sym (c12 .read-iprp-content .ensures .0) ∙ c8 .t2 .given .1) _ (c12 .read-iprp-content .ensures .1)
+              (a .extents) e (a .primary .0) in
+              same-named _ _ (o .2) (c4 .read-last .ensures .1 .1 .1 _ x (o .1) n),
+        ),
       ),
     )
 

@@ -2,9 +2,24 @@
 use borrow.Author.Needs.{needs}
 use native.Mathlib.Omega.{arith}
 use mathlib.Core.Path.{refl, sym, _∙_}
+use mathlib.Core.List.{[]}
+use Rattle.rules.specs.Places.{placesAt}
 use Rattle.records.proofs.KeptLaws.{kept-on}
+use Rattle.reading.specs.inner.Parts.{kids}
 use Rattle.reading.proofs.ChainLaws.{ids-distinct, none-derived}
-use Rattle.reading.proofs.LastLaws.{iref-within, part-fits, head-kept, counts-few, last-none, last-gone, last-few, last-read}
+use Rattle.reading.proofs.LastLaws.{
+  iref-within,
+  part-fits,
+  head-kept,
+  counts-few,
+  last-none,
+  last-none-named,
+  last-gone,
+  last-few,
+  last-read,
+  last-named,
+}
+use Rattle.reading.proofs.NamedLaws.{refused-none}
 use Rattle.reading.proofs.RowedLaws.{no-reading, none-rowed, head-rowed}
 use Rattle.reading.proofs.read_last.Statement.{statement}
 use Rattle.reading.proofs.read_last.Tie as tie
@@ -32,8 +47,12 @@ returns c =
           _ (c3 .put-head .ensures) _ (c .found-idat .ensures _ (c10 .pre .0))),
       (
         head-kept _ _ _ _ _ _ _ _ _ _ (c3 .put-head .ensures),
-        λ i e q. head-rowed (a .table .now) _ (a .rows .now) _ _ _ _ _ _ _ _ (c3 .put-head .ensures) (p .2)
-            (none-rowed (a .c .items) (a .c .targets) (a .table .now) (a .rows .now) (p .4 .2 .targets)),
+        (
+          λ i e q. head-rowed (a .table .now) _ (a .rows .now) _ _ _ _ _ _ _ _ (c3 .put-head .ensures) (p .2)
+              (none-rowed (a .c .items) (a .c .targets) (a .table .now) (a .rows .now) (p .4 .2 .targets)),
+          λ f x l n. last-none-named (a .s .now) (a .at) (a .total) (a .primary .0) _ (p .0) (a .c) f x _ l
+              (c5 .if1 .taken) (a .rows .now) n,
+        ),
       ),
     )
 
@@ -107,7 +126,15 @@ returns-2 c =
     let a = c16 .args in (
       (λ f x l. last-gone (a .s .now) (a .at) (a .total) (a .primary .0) _ (c16 .pre .0) (a .c) f x _ l (c11 .if1 .left)
           _ refl _ (sym (c7 .read-references .ensures .0) ∙ c .before .t .given .1) _),
-      (c7 .read-references .ensures .1 .0 .kept, λ i e q. no-reading _ i e q),
+      (
+        c7 .read-references .ensures .1 .0 .kept,
+        (
+          λ i e q. no-reading _ i e q,
+          λ f x l n g q. refused-none _ _ _ (last-gone (a .s .now) (a .at) (a .total) (a .primary .0) _ (c16 .pre .0)
+              (a .c) f x _ l (c11 .if1 .left) _ refl _
+              (sym (c7 .read-references .ensures .0) ∙ c .before .t .given .1) [] .answer) g q,
+        ),
+      ),
     )
 
 returns-3 : tie.Need-returns-3
@@ -124,8 +151,14 @@ returns-3 c =
       (
         kept-on _ _ _ (g .ensures .1 .0 .kept)
             (head-kept _ _ _ _ _ _ _ _ _ _ (c3 .put-head2 .ensures)),
-        λ i e q. head-rowed (g .last .1 .1 .1 .0) _ (g .last .1 .1 .1 .1 .0) _ _ _ _ _ _ _ _ (c3 .put-head2 .ensures)
-            (omega (arith, g .ensures .1 .0 .kept .same-length, p .2)) (g .ensures .1 .1 _ (c6 .t2 .given .1)),
+        (
+          λ i e q. head-rowed (g .last .1 .1 .1 .0) _ (g .last .1 .1 .1 .1 .0) _ _ _ _ _ _ _ _ (c3 .put-head2 .ensures)
+              (omega (arith, g .ensures .1 .0 .kept .same-length, p .2)) (g .ensures .1 .1 .0 _ (c6 .t2 .given .1)),
+          λ f x l n. last-named (a .s .now) (a .at) (a .total) (a .primary .0) _ (p .0) (a .c) f x _ l (c16 .if1 .left)
+              _ refl _ (sym (g .ensures .0) ∙ c6 .t2 .given .1) (g .last .1 .1 .1 .1 .0) (λ refs q. g .ensures .1 .1 .1 .1
+              (placesAt (a .at) (kids (a .s .now))) f x refs (l .before .ready) (l .none) (l .no-links) q
+              (l .before .is) n),
+        ),
       ),
     )
 

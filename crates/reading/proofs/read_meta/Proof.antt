@@ -1,9 +1,11 @@
 -- `reading::read_meta` meets its contract. Assumes nothing.
 use mathlib.Core.Path.{sym, _∙_}
+use mathlib.Core.List.{[]}
 use native.Mathlib.Omega.{arith}
 use Rattle.records.proofs.KeptLaws.{kept-same}
-use Rattle.reading.proofs.TopStage.{rest-room, full-refused-after, full-room, full-after}
+use Rattle.reading.proofs.TopStage.{rest-room, full-refused-after, full-room, full-is, full-after}
 use borrow.Author.Needs.{needs}
+use Rattle.reading.proofs.NamedLaws.{same-named, refused-none}
 use Rattle.reading.proofs.RowedLaws.{no-reading}
 use Rattle.reading.proofs.read_meta.Statement.{statement}
 use Rattle.reading.proofs.read_meta.Tie as tie
@@ -40,7 +42,14 @@ returns c =
     let a = c7 .args in (
       λ x w. full-refused-after (a .place) (a .at) (a .total) (a .s .now) _ x _
           (sym (c3 .read-full .ensures) ∙ c .before .v .given .1),
-      (kept-same _, λ i e q. no-reading _ i e q),
+      (
+        kept-same _,
+        (
+          λ i e q. no-reading _ i e q,
+          λ g e. refused-none _ _ _ (full-refused-after (a .place) (a .at) (a .total) (a .s .now) _ [] []
+              (sym (c3 .read-full .ensures) ∙ c .before .v .given .1) .answer) g e,
+        ),
+      ),
     )
 
 returns-2 : tie.Need-returns-2
@@ -50,7 +59,14 @@ returns-2 c =
     let a = c14 .args in (
       λ x w. full-after (a .place) (a .at) (a .total) (a .s .now) _ _
           (sym (c10 .read-full .ensures) ∙ c8 .enum-told .given .1) _ x _ (c4 .read-children .ensures .0 x w),
-      c4 .read-children .ensures .1,
+      (
+        c4 .read-children .ensures .1 .0,
+        (
+          c4 .read-children .ensures .1 .1 .0,
+          same-named _ _ (full-is (a .place) (a .at) (a .total) (a .s .now) _ _
+              (sym (c10 .read-full .ensures) ∙ c8 .enum-told .given .1)) (c4 .read-children .ensures .1 .1 .1),
+        ),
+      ),
     )
 
 pub read-meta-spec : {M : Type 1} → statement M

@@ -1,5 +1,6 @@
 -- The contents of `meta` in the order of reading, from each box on: the lines of `contentsOf`, so that each function of the code has its own.
 --   fromReferences, fromShown, fromLocations, fromItems, fromHandler     from that box on
+--   NamedOf m v      the rows after all stages, m being what reading comes to
 --   readWords        what reading leaves in the table
 use Prim.Native.Nat.{ℕ, _+_}
 use mathlib.Core.Path.{_≡_}
@@ -23,12 +24,13 @@ use Rattle.contents.specs.Iinf.{Item, idsOf, items}
 use Rattle.contents.specs.Iloc.{Location, extentsIn, iloc-form}
 use Rattle.contents.specs.Ipma.{associationsIn}
 use Rattle.contents.specs.Iprp.{IprpContent, iprp-content}
-use Rattle.contents.specs.Iref.{Derivation}
+use Rattle.contents.specs.Iref.{IrefContent}
 use Rattle.contents.specs.File.{File, referred, dataOf, readFile}
 use Rattle.rules.specs.Places.{Places, firstOf, placesAt, placesIn}
 use Rattle.rules.specs.Words.{tableWords, headWords}
 use Rattle.records.specs.inner.Raw.{rawOf}
 use Rattle.records.specs.inner.Stage.{Ready}
+use Rattle.records.specs.inner.Named.{NamedIn}
 use Rattle.reading.specs.declared.Counts.{Counts}
 use Rattle.reading.specs.declared.FileRead.{FileRead}
 use Rattle.reading.specs.declared.FileRead.the-variants as read
@@ -42,19 +44,20 @@ module _ (at : ℕ) (bs : List (List ℕ)) where
   abbrev pub beginOf : ℕ → ℕ
   beginOf k = placeOf k at bs + headOf (firstOf k bs)
 
-  abbrev pub fileBy : ℕ → List Item → List Location → IprpContent → List Derivation → File
-  fileBy primary is ls v ds = record {
+  abbrev pub fileBy : ℕ → List Item → List Location → IprpContent → IrefContent → File
+  fileBy primary is ls v c = record {
     primary = primary;
     items = is;
     locations = ls;
     properties = v .properties;
     associations = v .associations;
-    derivations = ds;
+    derivations = c .derivations;
+    links = c .links;
     idat = dataOf (ofKind idat bs);
   }
 
   unfoldable pub fromReferences : ℕ → List Item → List Location → IprpContent → Answer File
-  fromReferences primary is ls v = referred (idsOf is) (placeOf iref at bs) (ofKind iref bs) >>= (λ ds. ok (fileBy primary is ls v ds))
+  fromReferences primary is ls v = referred (idsOf is) (placeOf iref at bs) (ofKind iref bs) >>= (λ c. ok (fileBy primary is ls v c))
 
   unfoldable pub fromShown : ℕ → List Item → List Location → Answer File
   fromShown primary is ls = iprp-content (idsOf is) (placeOf iprp at bs) (beginOf iprp) (contentOf iprp) >>= (λ v. fromReferences primary is ls v)
@@ -120,6 +123,7 @@ shownOf f = record { properties = f .properties; associations = f .associations 
 pub record LastBefore (s : List ℕ) (at : ℕ) (c : Counts) (f : File) (x t : List ℕ) : Type 0 where
   pub before : Before s at (c .items) f x t
   pub none : f .derivations ≡ []
+  pub no-links : f .links ≡ []
   pub properties : c .properties ≡ length (f .properties)
   pub associations : c .associations ≡ associationsIn (f .associations)
   pub targets : c .targets ≡ 0
@@ -134,6 +138,10 @@ pub record After (s : List ℕ) (at total : ℕ) (m : Answer File) (r : FileRead
 pub record ReadLeft (total : ℕ) (head : List ℕ) (r : FileRead) (x u : List ℕ) : Type 0 where
   pub answer : r ≡ toldFile (placesIn total head .idat) (readFile total head)
   pub left : (g : File) → readFile total head ≡ ok g → u ≡ rawOf (headWords total g) (placesIn total head) g ++ x
+
+-- where m comes to a file, v has the rows that its extents name
+abbrev pub NamedOf : Answer File → List ℕ → Type 0
+NamedOf m v = (g : File) → m ≡ ok g → NamedIn g v
 
 -- what reading answers: 1, then 2 to 11
 unfoldable pub readAnswer : ℕ → ℕ → List ℕ → FileRead

@@ -13,15 +13,15 @@ use Rattle.fields.specs.Lists.{member}
 use Rattle.contents.specs.Iinf.{Item}
 use Rattle.contents.specs.Iloc.{Extent, Location, locatedIn, extentsIn}
 use Rattle.contents.specs.Ipma.{Association, IpmaEntry, associationsIn}
-use Rattle.contents.specs.Iref.{Derivation, targetsIn}
+use Rattle.contents.specs.Iref.{Reference, targetsIn}
 use Rattle.contents.specs.File.{File}
-use Rattle.rules.specs.Joined.{locatedAt, namedFor, derivedFrom}
+use Rattle.rules.specs.Joined.{locatedAt, namedFor, referredFrom}
 use Rattle.rules.specs.Places.{Places, fileOffset}
 use Rattle.rules.specs.Words.{joinAll, region, highLow, span, namedGroups, derivedGroups, locatedGroups, propertiesFrom, associationWord}
 
 -- a file of which nothing is read yet, and one more of each list
 abbrev pub unread : File
-unread = record { primary = 0; items = []; locations = []; properties = []; associations = []; derivations = []; idat = [] }
+unread = record { primary = 0; items = []; locations = []; properties = []; associations = []; derivations = []; links = []; idat = [] }
 
 abbrev pub addItem : File → Item → File
 addItem f i = record {
@@ -32,6 +32,7 @@ addItem f i = record {
       f .properties;
   associations = f .associations;
   derivations = f .derivations;
+  links = f .links;
   idat = f .idat;
 }
 
@@ -44,6 +45,7 @@ addLocation f l = record {
       f .properties;
   associations = f .associations;
   derivations = f .derivations;
+  links = f .links;
   idat = f .idat;
 }
 
@@ -56,6 +58,7 @@ addProperty f b = record {
       f .properties ++ (b ∷ []);
   associations = f .associations;
   derivations = f .derivations;
+  links = f .links;
   idat = f .idat;
 }
 
@@ -67,10 +70,11 @@ addNamed f n = record {
   properties = f .properties;
   associations = f .associations ++ (n ∷ []);
   derivations = f .derivations;
+  links = f .links;
   idat = f .idat;
 }
 
-abbrev pub addDerivation : File → Derivation → File
+abbrev pub addDerivation : File → Reference → File
 addDerivation f d = record {
   primary = f .primary;
   items = f .items;
@@ -79,6 +83,7 @@ addDerivation f d = record {
       f .properties;
   associations = f .associations;
   derivations = f .derivations ++ (d ∷ []);
+  links = f .links;
   idat = f .idat;
 }
 
@@ -93,8 +98,8 @@ pub record Bounded (f : File) : Type 0 where
 unfoldable pub namedWords : List IpmaEntry → ℕ → List ℕ
 namedWords ns id = span id (namedGroups ns) (length (namedFor ns id))
 
-unfoldable pub derivedWords : List Derivation → ℕ → List ℕ
-derivedWords ds id = span id (derivedGroups ds) (length (derivedFrom ds id))
+unfoldable pub derivedWords : List Reference → ℕ → List ℕ
+derivedWords ds id = span id (derivedGroups ds) (length (referredFrom ds id))
 
 unfoldable pub placeWords : List Location → ℕ → List ℕ
 placeWords ls id =
@@ -121,8 +126,8 @@ extentRows pl ls = joinAll (λ (l : Location). joinAll (λ (e : Extent). extentR
 unfoldable pub associationRows : List IpmaEntry → List ℕ
 associationRows ns = joinAll (λ (n : IpmaEntry). map (λ (a : Association). associationWord a) (n .list)) ns
 
-unfoldable pub targetRows : List Derivation → List ℕ
-targetRows ds = joinAll (λ (d : Derivation). d .targets) ds
+unfoldable pub targetRows : List Reference → List ℕ
+targetRows ds = joinAll (λ (d : Reference). d .targets) ds
 
 unfoldable pub rawOf : List ℕ → Places → File → List ℕ
 rawOf hw pl f =

@@ -1,7 +1,7 @@
 -- What a stage of reading leaves in the table.
 --   Kept t u        u is as long as t, and past 11,280 the same: what a stage does in any case
 --   Ready f n       f has n items, no two with one ID, and keeps the limits: what later stages build on
---   withItems, withLocations, withShown, withDerivations    a file with one more stage read
+--   withItems, withLocations, withShown, withReferences    a file with one more stage read
 use Prim.Native.Nat.{ℕ}
 use mathlib.Core.Path.{_≡_}
 use mathlib.Core.List.{List}
@@ -10,7 +10,7 @@ use Rattle.contents.specs.Iinf.{Item, idsOf}
 use Rattle.contents.specs.Iloc.{Location}
 use Rattle.contents.specs.Ipma.{IpmaEntry}
 use Rattle.contents.specs.Iprp.{IprpContent}
-use Rattle.contents.specs.Iref.{Derivation}
+use Rattle.contents.specs.Iref.{IrefContent}
 use Rattle.contents.specs.File.{File}
 use Rattle.records.specs.inner.Raw.{unread, Bounded}
 use Rattle.records.specs.inner.Rows.{Distinct}
@@ -32,6 +32,7 @@ withItems is = record {
   properties = unread .properties;
   associations = unread .associations;
   derivations = unread .derivations;
+  links = unread .links;
   idat = unread .idat;
 }
 
@@ -43,6 +44,7 @@ withLocations f ls = record {
   properties = f .properties;
   associations = f .associations;
   derivations = f .derivations;
+  links = f .links;
   idat = f .idat;
 }
 
@@ -54,6 +56,7 @@ withProperties f ps = record {
   properties = ps;
   associations = f .associations;
   derivations = f .derivations;
+  links = f .links;
   idat = f .idat;
 }
 
@@ -65,17 +68,19 @@ withNames f ns = record {
   properties = f .properties;
   associations = ns;
   derivations = f .derivations;
+  links = f .links;
   idat = f .idat;
 }
 
-abbrev pub withDerivations : File → List Derivation → File
-withDerivations f ds = record {
+abbrev pub withReferences : File → IrefContent → File
+withReferences f c = record {
   primary = f .primary;
   items = f .items;
   locations = f .locations;
   properties =
       f .properties;
   associations = f .associations;
-  derivations = ds;
+  derivations = c .derivations;
+  links = c .links;
   idat = f .idat;
 }

@@ -1,8 +1,8 @@
 -- `references::put_derivation` meets its contract. Assumes nothing.
 use mathlib.Core.Path.{refl, sym, _∙_}
-use mathlib.Core.Bool.{true}
+use Rattle.boxes.specs.Types.{dimg}
 use Rattle.records.proofs.KeptLaws.{kept-same}
-use Rattle.references.proofs.PutLaws.{dimg-none, dimg-over, dimg-refused, dimg-done, kept-span}
+use Rattle.references.proofs.PutLaws.{fresh-dimg, dimg-none, dimg-over, dimg-refused, dimg-done, kept-span}
 use Rattle.references.proofs.RowedLaws.{no-targets, rowed-stored}
 use native.Mathlib.Omega.{arith}
 use borrow.Author.Needs.{needs}
@@ -16,8 +16,9 @@ returns c =
     let p = c4 .pre in (
       kept-same _,
       (
-        λ before q fresh. dimg-none (a .table .now) (a .n) (a .w) (a .place) (a .used) (a .s .now) true
-            before q (omega (arith, p .1 .0)) _ (p .1 .1) (p .1 .2) fresh (p .1 .0) _ (p .1 .3) refl (c .if1 .taken) _,
+        λ before q fresh. dimg-none (a .table .now) (a .n) (a .w) (a .place) (a .used) (a .s .now) dimg
+            before q (omega (arith, p .1 .0)) _ (p .1 .1) (p .1 .2) (fresh-dimg dimg before _ refl fresh) (p .1 .0) _
+            (p .1 .3) refl (c .if1 .taken) _ _ _,
         λ m e. no-targets _ m e,
       ),
     )
@@ -29,9 +30,9 @@ returns-2 c =
     let p = c5 .pre in (
       kept-same _,
       (
-        λ before q fresh. dimg-over (a .table .now) (a .n) (a .w) (a .place) (a .used) (a .s .now) true
-            before q (omega (arith, p .1 .0)) _ (p .1 .1) (p .1 .2) fresh (p .1 .0) _ (p .1 .3) refl (c .before .if1 .left)
-            (c .if2 .taken) _,
+        λ before q fresh. dimg-over (a .table .now) (a .n) (a .w) (a .place) (a .used) (a .s .now) dimg
+            before q (omega (arith, p .1 .0)) _ (p .1 .1) (p .1 .2) (fresh-dimg dimg before _ refl fresh) (p .1 .0) _
+            (p .1 .3) refl (c .before .if1 .left) (c .if2 .taken) _ _ _,
         λ m e. no-targets _ m e,
       ),
     )
@@ -45,8 +46,9 @@ returns-3 c =
       c7 .put-targets .ensures .1 .0 .kept,
       (
         λ before q fresh. dimg-refused (a .table .now) (a .n) (a .w) (a .place)
-            (a .used) (a .s .now) true before q (omega (arith, p .1 .0)) _ (p .1 .1) (p .1 .2) fresh (p .1 .0) _ (p .1 .3)
-            refl (c11 .if1 .left) (c10 .if2 .left) _ (sym (c7 .put-targets .ensures .0) ∙ c .before .t .given .1) _,
+            (a .used) (a .s .now) dimg before q (omega (arith, p .1 .0)) _ (p .1 .1) (p .1 .2)
+            (fresh-dimg dimg before _ refl fresh) (p .1 .0) _ (p .1 .3) refl (c11 .if1 .left) (c10 .if2 .left) _
+            (sym (c7 .put-targets .ensures .0) ∙ c .before .t .given .1) _ _ _,
         λ m e. no-targets _ m e,
       ),
     )
@@ -63,9 +65,10 @@ returns-4 c =
           (c2 .put-span .ensures),
       (
         λ before q fresh. dimg-done (a .table .now) (a .n) (a .w) (a .place) (a .used)
-            (a .s .now) true before q (omega (arith, p .1 .0)) _ (p .1 .1) (p .1 .2) fresh (p .1 .0) _ (p .1 .3) refl
-            (c14 .if1 .left) (c13 .if2 .left) (sym (put .ensures .0) ∙ c4 .enum-told .given .1) _ _ (put .ensures .1 .0)
-            (c2 .put-span .ensures),
+            (a .s .now) dimg before q (omega (arith, p .1 .0)) _ (p .1 .1) (p .1 .2) (fresh-dimg dimg before _ refl fresh)
+            (p .1 .0) _ (p .1 .3) refl (c14 .if1 .left) (c13 .if2 .left) refl fresh
+            (sym (put .ensures .0) ∙ c4 .enum-told .given .1) _ _ _ _ (put .ensures .1 .0) (c2 .put-span .ensures)
+            (put .ensures .1 .1 .2),
         rowed-stored (a .n) (a .used) (a .k) (a .row .0) (p .0 .2)
             (omega (arith, p .1 .1, p .0 .2)) (a .table .now) (put .last .1 .1 .1 .1 .1 .0) _ (a .rows .now)
             (put .last .1 .1 .1 .1 .1 .1 .0) (c2 .put-span .ensures)

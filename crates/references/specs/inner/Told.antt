@@ -6,20 +6,20 @@ use mathlib.Core.Path.{_≡_}
 use mathlib.Core.List.{List, [], _++_}
 use Rattle.boxes.specs.Answer.{Answer, ok, refuse}
 use Rattle.contents.specs.Iinf.{idsOf}
-use Rattle.contents.specs.Iref.{Derivation, targetsIn, references}
+use Rattle.contents.specs.Iref.{IrefContent, targetsIn, references}
 use Rattle.contents.specs.File.{File}
 use Rattle.rules.specs.Places.{Places}
 use Rattle.records.specs.inner.Raw.{rawOf}
-use Rattle.records.specs.inner.Stage.{Kept, Ready, withDerivations}
+use Rattle.records.specs.inner.Stage.{Kept, Ready, withReferences}
 use Rattle.references.specs.declared.ReferencesRead.{ReferencesRead}
 use Rattle.references.specs.declared.ReferencesRead.the-variants as read
 
-unfoldable pub toldReferences : Answer (List Derivation) → ReferencesRead
-toldReferences (ok ds) = read.Targets (targetsIn ds)
+unfoldable pub toldReferences : Answer IrefContent → ReferencesRead
+toldReferences (ok c) = read.Targets (targetsIn (c .derivations))
 toldReferences (refuse n p) = read.Refused (record { number = n; place = p })
 
 pub record ReferencesLeft (s : List ℕ) (place base n : ℕ) (t u : List ℕ) : Type 0 where
   pub kept : Kept t u
-  pub told : (pl : Places) (f : File) (x : List ℕ) (ds : List Derivation) → Ready f n → f .derivations ≡ [] →
-      references (idsOf (f .items)) place base s ≡ ok ds → t ≡ rawOf [] pl f ++ x →
-      u ≡ rawOf [] pl (withDerivations f ds) ++ x
+  pub told : (pl : Places) (f : File) (x : List ℕ) (c : IrefContent) → Ready f n → f .derivations ≡ [] →
+      references (idsOf (f .items)) place base s ≡ ok c → t ≡ rawOf [] pl f ++ x →
+      u ≡ rawOf [] pl (withReferences f c) ++ x

@@ -15,7 +15,7 @@ returns c =
     let a = c5 .before .before .before .before .args in
     λ total f w.
     let q = points-over f (a .id .0) (length (a .points .now)) _
-    (sym (c5 .picture-row .ensures _ _ f (w .view)) ∙ c3 .p2 .given .1) (omega (arith, c .before .if1 .taken)) _
+    (sym (c5 .picture-row .ensures _ _ f (w .followed .view)) ∙ c3 .p2 .given .1) (omega (arith, c .before .if1 .taken)) _
     (c .refusal .ensures .0) (c .refusal .ensures .1) in
     (q, numbers-kept _ (a .points .now) _ _ q)
 
@@ -25,7 +25,7 @@ returns-2 c =
     let a = c3 .before .before .before .before .args in
     λ total f w.
     let q = points-off f (a .id .0) (length (a .points .now)) _
-    (sym (c3 .picture-row .ensures _ _ f (w .view)) ∙ c .before .p .given .1) in
+    (sym (c3 .picture-row .ensures _ _ f (w .followed .view)) ∙ c .before .p .given .1) in
     (q, numbers-kept _ (a .points .now) _ _ q)
 
 returns-3 : tie.Need-returns-3
@@ -33,7 +33,7 @@ returns-3 c =
     let c3 = c .before .before .before in let c5 = c3 .before .before in let c7 = c5 .before .before in
     let a = c7 .before .before .before .before .args in
     λ total f w.
-    let e = sym (c7 .picture-row .ensures _ _ f (w .view)) ∙ c5 .p2 .given .1 in
+    let e = sym (c7 .picture-row .ensures _ _ f (w .followed .view)) ∙ c5 .p2 .given .1 in
     let q = points-all f (a .id .0) (length (a .points .now)) _ e (omega (arith, c3 .if1 .left)) in
     (q, c .before .answer-numbers .ensures total f w (pictured-row _ _ e) ∙ numbers-put _ (a .points .now) _ _ q)
 

@@ -37,11 +37,11 @@ returns-2 c =
     λ total head f d h i.
     let r = c10 .args .row .0 in
     let j = c5 .loop .j in
-    let l : j < length (targetsOf f (idOf f r)) = omega (arith, c6 .input-count .ensures head _ f (d .view) h) in
+    let l : j < length (targetsOf f (idOf f r)) = omega (arith, c6 .input-count .ensures head _ f (d .followed .view) h) in
     let k : j < length (pictureAt (sceneOf total head f) r .inputs) = omega (arith, inputs-many d r i) in
     size-other (sceneOf total head f) _ _ j k _ (c .before .is-same .ensures ∙
     ap (λ (y : Size). sameSize y (c10 .args .z)) (input-size d r i j l _
-    (c3 .input-of .ensures head _ f (d .view) (d .resolved) h l) _ (c2 .held-output .ensures)))
+    (c3 .input-of .ensures head _ f (d .followed .view) (d .resolved) h l) _ (c2 .held-output .ensures)))
     (not-true _ (c .if2 .taken)) (c5 .loop .inv .1 total head f d h i)
 
 loop-again : tie.Need-loop-again Inv-loop μ-loop
@@ -50,11 +50,11 @@ loop-again c =
     let c10 = c6 .before .before .before .before in (
       omega arith,
       λ total head f d h i. let r = c10 .args .row .0 in let j = c5 .loop .j in
-          let l : j < length (targetsOf f (idOf f r)) = omega (arith, c6 .input-count .ensures head _ f (d .view) h) in
+          let l : j < length (targetsOf f (idOf f r)) = omega (arith, c6 .input-count .ensures head _ f (d .followed .view) h) in
           let k : j < length (pictureAt (sceneOf total head f) r .inputs) = omega (arith, inputs-many d r i) in
           size-more (sceneOf total head f) _ _ j k _ (c .before .is-same .ensures ∙
           ap (λ (y : Size). sameSize y (c10 .args .z)) (input-size d r i j l _
-          (c3 .input-of .ensures head _ f (d .view) (d .resolved) h l) _ (c2 .held-output .ensures)))
+          (c3 .input-of .ensures head _ f (d .followed .view) (d .resolved) h l) _ (c2 .held-output .ensures)))
           (not-false _ (c .if2 .left)) (c5 .loop .inv .1 total head f d h i),
     )
 
@@ -62,11 +62,11 @@ returns-3 : tie.Need-returns-3 Inv-loop μ-loop
 returns-3 c =
     let c2 = c .before .before in let c6 = c2 .before .before .before .before in
     λ total head f d h i. size-all (sceneOf total head f) _ _ (c .before .loop .j)
-    (omega (arith, c2 .input-count .ensures head _ f (d .view) h, inputs-many d (c6 .args .row .0) i))
+    (omega (arith, c2 .input-count .ensures head _ f (d .followed .view) h, inputs-many d (c6 .args .row .0) i))
     (c .before .loop .inv .1 total head f d h i)
 
 pub all-size-spec : {M : Type 1} → statement M
 all-size-spec =
-    tie.close (tie.spec Inv-loop μ-loop (λ c. λ total head f d h i. absurd (omega (arith, d .view .enough)))
+    tie.close (tie.spec Inv-loop μ-loop (λ c. λ total head f d h i. absurd (omega (arith, d .followed .view .enough)))
     (search needs) (λ c. (omega arith, λ total head f d h i. refl)) (search needs) (search needs) (search needs)
     returns-2 (search needs) (search needs) loop-again returns-3)

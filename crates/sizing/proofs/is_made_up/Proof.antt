@@ -13,7 +13,7 @@ returns c =
     let c2 = c .before .before in let c6 = c2 .before .before .before .before in
     λ total f d h i.
     let a = c6 .args in
-    made-plain d (a .row .0) i h (test-read (d .view) (a .row .0) h derived _ _ (c2 .type-of .ensures)
+    made-plain d (a .row .0) i h (test-read (d .followed .view) (a .row .0) h derived _ _ (c2 .type-of .ensures)
     (c .before .is-derived .ensures) ∙ not-true _ (c .if1 .taken))
 
 returns-2 : tie.Need-returns-2
@@ -21,7 +21,7 @@ returns-2 c =
     let c2 = c .before .before in let c3 = c2 .before in let c7 = c3 .before .before .before .before in
     λ total f d h i.
     let a = c7 .args in
-    c .is-as-derived .ensures total f d h i (test-read (d .view) (a .row .0) h derived _ _ (c3 .type-of .ensures)
+    c .is-as-derived .ensures total f d h i (test-read (d .followed .view) (a .row .0) h derived _ _ (c3 .type-of .ensures)
     (c2 .is-derived .ensures) ∙ not-false _ (c .before .if1 .left))
 
 pub is-made-up-spec : {M : Type 1} → statement M

@@ -22,7 +22,7 @@ returns c =
       wide = a .canvas .wide;
       high = a .canvas .high;
     }) _ (input-size d (a .row .0) i 0 l _
-    (c3 .input-of .ensures head _ f (d .view) (d .resolved) h l) _ (c2 .output-in .ensures))
+    (c3 .input-of .ensures head _ f (d .followed .view) (d .resolved) h l) _ (c2 .output-in .ensures))
     (sym (c .before .all-size .ensures total head f d h i) ∙ not-true _ (c .if1 .taken))
 
 returns-2 : tie.Need-returns-2
@@ -39,7 +39,7 @@ returns-2 c =
       wide = a .canvas .wide;
       high = a .canvas .high;
     }) _ (input-size d (a .row .0) i 0 l _
-    (c5 .input-of .ensures head _ f (d .view) (d .resolved) h l) _ (c4 .output-in .ensures))
+    (c5 .input-of .ensures head _ f (d .followed .view) (d .resolved) h l) _ (c4 .output-in .ensures))
     (sym (c3 .all-size .ensures total head f d h i) ∙ not-false _ (c2 .if1 .left))
     (sym (c .before .is-covered .ensures) ∙ not-true _ (c .if2 .taken))
 
@@ -58,7 +58,7 @@ returns-3 c =
       high =
           a .canvas .high;
     }) _ (input-size d (a .row .0) i 0 l _
-    (c7 .input-of .ensures head _ f (d .view) (d .resolved) h l) _ (c6 .output-in .ensures))
+    (c7 .input-of .ensures head _ f (d .followed .view) (d .resolved) h l) _ (c6 .output-in .ensures))
     (sym (c5 .all-size .ensures total head f d h i) ∙ not-false _ (c4 .if1 .left))
     (sym (c3 .is-covered .ensures) ∙ not-false _ (c2 .if2 .left))
     (sym (c .before .is-covered2 .ensures) ∙ not-true _ (c .if3 .taken))
@@ -79,7 +79,7 @@ returns-4 c =
       high =
           a .canvas .high;
     }) _ (input-size d (a .row .0) i 0 l _
-    (c9 .input-of .ensures head _ f (d .view) (d .resolved) h l) _ (c8 .output-in .ensures))
+    (c9 .input-of .ensures head _ f (d .followed .view) (d .resolved) h l) _ (c8 .output-in .ensures))
     (sym (c7 .all-size .ensures total head f d h i) ∙ not-false _ (c6 .if1 .left))
     (sym (c5 .is-covered .ensures) ∙ not-false _ (c4 .if2 .left))
     (sym (c3 .is-covered2 .ensures) ∙ not-false _ (c2 .if3 .left)) _

@@ -18,14 +18,13 @@ use Rattle.pictures.specs.Decode.{turnsOf}
 use Rattle.pictures.specs.Recipe.{Grid}
 use Rattle.pictures.specs.Scene.{Picture, Scene, firstInput, allSize, covered, sameSize}
 use Rattle.rules.specs.Joined.{boxesOf, itemAt}
-use Rattle.rules.specs.Places.{placesIn}
 use Rattle.rules.specs.Derivations.{declaredIn, sceneOf}
 use Rattle.rules.specs.Rules.{configured}
-use Rattle.views.specs.inner.View.{TableOf, SizesAre, AllPlaced, AllFed, idOf, recordWord}
+use Rattle.views.specs.inner.View.{SizesAre, AllFed, idOf, recordWord}
 use Rattle.declared.specs.inner.Told.{toldSizes}
 use Rattle.declared.specs.declared.SizesRead.{SizesRead}
 use Rattle.declared.specs.declared.SizesRead.the-variants.{Are, Wrong}
-use Rattle.derived.specs.inner.Told.{Resolved}
+use Rattle.derived.specs.inner.Told.{Resolved, Followed}
 
 unfoldable pub sizesFor : Size → Size → ℕ → List ℕ
 sizesFor s o d = s .wide ∷ s .high ∷ o .wide ∷ o .high ∷ d ∷ []
@@ -47,10 +46,9 @@ ToldBefore t f r = (k : ℕ) → suc k ≡ r → (recordWord t k 10 ≡ 0 → �
     (size (recordWord t k 12) (recordWord t k 13))
 
 pub record Drawn (t rows head : List ℕ) (total : ℕ) (f : File) : Type 0 where
-  pub view : TableOf t head (placesIn total head) f
+  pub followed : Followed t rows head total f
   pub sizes : SizesAre t (sceneOf total head f)
   pub resolved : Resolved t rows f
-  pub placed : AllPlaced total head f
   pub fed : AllFed total head f
 
 -- what rule 20 says of the tiles of a grid g

@@ -13,9 +13,9 @@ returns : tie.Need-returns
 returns c =
     λ total head f w. absurd (omega (
       arith,
-      w .view .items,
+      w .followed .view .items,
       c .before .item-count .ensures,
-      w .view .bounded .few-items,
+      w .followed .view .bounded .few-items,
     ))
 
 returns-2 : tie.Need-returns-2
@@ -24,7 +24,7 @@ returns-2 c =
     let c8 = c6 .before .before in let c10 = c8 .before .before in let c14 = c10 .before .before .before .before in
     λ total head f w.
     let a = c14 .args in
-    let q = sym (c10 .picture-row .ensures _ _ f (w .view)) ∙ c8 .r2 .given .1 in
+    let q = sym (c10 .picture-row .ensures _ _ f (w .followed .view)) ∙ c8 .r2 .given .1 in
     sources-over w (a .id .0) (length (a .list .now)) (a .list .now) _ q
     (c6 .item-count .result) (c4 .needed-of .result) (c6 .item-count .ensures)
     (c4 .needed-of .ensures) (omega (arith, c .before .if2 .taken, c2 .count-sources .ensures)) _
@@ -36,7 +36,7 @@ returns-3 c =
     λ total head f w.
     let a = c7 .args in
     sources-off w (a .id .0) (length (a .list .now)) (a .list .now) _
-    (sym (c3 .picture-row .ensures _ _ f (w .view)) ∙ c .before .r .given .1)
+    (sym (c3 .picture-row .ensures _ _ f (w .followed .view)) ∙ c .before .r .given .1)
 
 returns-4 : tie.Need-returns-4
 returns-4 c =
@@ -45,7 +45,7 @@ returns-4 c =
     let c14 = c12 .before .before in let c18 = c14 .before .before .before .before in
     λ total head f w.
     let a = c18 .args in
-    let q = sym (c14 .picture-row .ensures _ _ f (w .view)) ∙ c12 .r2 .given .1 in
+    let q = sym (c14 .picture-row .ensures _ _ f (w .followed .view)) ∙ c12 .r2 .given .1 in
     let m = c6 .count-sources .ensures in
     let n : length (markedOf (a .table .now) (c8 .needed-of .result) (c10 .item-count .result)) ≤ length (a .list .now)
     = omega (arith, c5 .if2 .left, m) in

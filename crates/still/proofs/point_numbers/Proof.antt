@@ -27,7 +27,7 @@ returns c =
       ⊎-elim (λ w. w .4 ∙ filled-off (a .total) (a .head .now) (a .table .now) (a .id .0) (length (a .points .now)) _
           (sym (g .0 .0) ∙ w .1 .given .1)) (λ w. let k = opened-file _ (sym (g .0 .0) ∙ w .1 .given .1) in w .8 ∙
           w .5 .ensures _ (k .0) (file-shown (a .total) (a .head .now) (a .table .now) few (k .0) (k .1) _ (g .0 .1) _
-          2304 (c5 .before .rows2 .given) (omega arith) (λ e. g .1 (k .0) (w .1 .given .1) e .0)) .0 ∙
+          2816 (c5 .before .rows2 .given) (omega arith) (λ e. g .1 (k .0) (w .1 .given .1) e .0)) .0 ∙
           filled-on (a .total) (a .head .now) (a .table .now) (a .id .0) (length (a .points .now)) (k .0) (k .1))
           (c5 .match .came),
       (
@@ -35,7 +35,7 @@ returns c =
             (a .points .now) _ (sym (g .0 .0) ∙ w .1 .given .1)) (λ w. let k =
             opened-file _ (sym (g .0 .0) ∙ w .1 .given .1) in w .7 ∙
             w .5 .ensures _ (k .0) (file-shown (a .total) (a .head .now) (a .table .now) few (k .0) (k .1) _ (g .0 .1) _
-            2304 (c5 .before .rows2 .given) (omega arith) (λ e. g .1 (k .0) (w .1 .given .1) e .0)) .1 ∙
+            2816 (c5 .before .rows2 .given) (omega arith) (λ e. g .1 (k .0) (w .1 .given .1) e .0)) .1 ∙
             numbers-on (a .total) (a .head .now) (a .table .now) (a .id .0) (a .points .now) (k .0) (k .1))
             (c5 .match .came),
         c .before .before .arrange .ensures (a .total) (a .head .now) (a .table .now) (g .0 .1)

@@ -185,11 +185,14 @@ stayed = (
   ),
 )
 
-rows-room : Room u32 2304
+rows-room : Room u32 2816
 rows-room = (lit< tt, lit< tt)
 
-at-most : (zs : List ℕ) → length zs ≡ 2304 → 2304 ≤ length zs
+at-most : (zs : List ℕ) → length zs ≡ 2816 → 2816 ≤ length zs
 at-most zs e = omega (arith, e)
+
+enough : (zs : List ℕ) → length zs ≡ 2816 → 2304 ≤ length zs
+enough zs e = omega (arith, e)
 
 -- the contracts that the proof cites
 module _ {M : Type 1} (𝓤 : URA M) (H : Heap 𝓤) (A : Atoms 𝓤) (mem : Memory → SProp 𝓤) (run : Routine → Fun 𝓤) where
@@ -223,7 +226,7 @@ module _ {M : Type 1} (𝓤 : URA M) (H : Heap 𝓤) (A : Atoms 𝓤) (W : Given
   s-points = sliceVal (b₂, o₂) (length xs)
 
   abbrev s-rows : ℕ → Val
-  s-rows l = sliceVal (l, 0) 2304
+  s-rows l = sliceVal (l, 0) 2816
 
   abbrev table : GName → List ℕ → RefT (List ℕ)
   table δ z = record { ptr = (b₁, o₁); name = δ; now = z }
@@ -311,7 +314,7 @@ module _ {M : Type 1} (𝓤 : URA M) (H : Heap 𝓤) (A : Atoms 𝓤) (W : Given
     tt,
   )
 
-  asks-ready : (l ν μ : ℕ) (δ ε : GName) (zs : List ℕ) → length zs ≡ 2304 →
+  asks-ready : (l ν μ : ℕ) (δ ε : GName) (zs : List ℕ) → length zs ≡ 2816 →
       ent 𝓤 (sep 𝓤 (sem 𝓤 H A (flft κ₀ q₀)) (sep 𝓤 (sem 𝓤 H A (flft (ν ∷ []) fullShare))
       (sep 𝓤 (sem 𝓤 H A (flft (μ ∷ []) fullShare)) (sep 𝓤 (sem 𝓤 H A (own-head))
       (sep 𝓤 (sem 𝓤 H A (own-table 1 (ν ∷ []) δ ts (length ts))) (sem 𝓤 H A (own-lent l (μ ∷ []) ε zs)))))))
@@ -380,13 +383,13 @@ module _ {M : Type 1} (𝓤 : URA M) (H : Heap 𝓤) (A : Atoms 𝓤) (W : Given
     tt,
   )
 
-  asks-arrange : (l ν σ : ℕ) (δ θ : GName) (zt zr : List ℕ) → length zr ≡ 2304 →
+  asks-arrange : (l ν σ : ℕ) (δ θ : GName) (zt zr : List ℕ) → length zr ≡ 2816 →
       ent 𝓤 (sep 𝓤 (sem 𝓤 H A (flft (ν ∷ []) fullShare)) (sep 𝓤 (sem 𝓤 H A (flft (σ ∷ []) fullShare))
       (sep 𝓤 (sem 𝓤 H A (own-table 0 (ν ∷ []) δ zt (length ts))) (sem 𝓤 H A (own-rows 1 l (σ ∷ []) θ zr)))))
       (Arrange 𝓤 H A mem run .pre (to-arrange l ν σ δ θ zt zr))
   asks-arrange l ν σ δ θ zt zr long =
       qed W (‵ (flft (ν ∷ []) fullShare) ∷ ‵ (flft (σ ∷ []) fullShare) ∷ ‵ (own-table 0 (ν ∷ []) δ zt (length ts)) ∷
-      ‵ (own-rows 1 l (σ ∷ []) θ zr) ∷ []) ∵ says ! (at-most zr long) $ nothing ! $ move ! (2 ∷ 0 ∷ []) $ join ! $
+      ‵ (own-rows 1 l (σ ∷ []) θ zr) ∷ []) ∵ says ! (enough zr long) $ nothing ! $ move ! (2 ∷ 0 ∷ []) $ join ! $
       move ! (1 ∷ 0 ∷ []) $ join ! $ frame ! $
       nothing ! $ move ! (2 ∷ 0 ∷ []) $ fjoin ! $ move ! (1 ∷ 0 ∷ []) $ fjoin ! $ done !
 
@@ -420,9 +423,9 @@ module _ {M : Type 1} (𝓤 : URA M) (H : Heap 𝓤) (A : Atoms 𝓤) (W : Given
         ! $ fsplit ! $ move ! (1 ∷ []) $ drop ! $
         move ! (53 ∷ []) $ split ! $ move ! (1 ∷ []) $ split ! $ move ! (1 ∷ []) $ split ! $ move ! (1 ∷ []) $ drop ! $
         -- [κ₂; κ₁; κ₀; own-points; own-table; own-head; the locals]
-        assigns ! (rep ! 2304 (lit ! tt)) (from ! (stop !)) (init ! 42 refl (zeros-typed 𝓤 H A W 2304 l₆)) $
-        move ! (42 ∷ []) $ use1 W (some (λ (z : List ℕ). ‵ (Lies 𝓤 H A W 2304 l₆ z))) (zeros-lie 𝓤 H A W 2304 l₆) $ pick
-        ! (λ zs. fsplit ! $ feqL ! (λ long. feqI ! ℕ (length zs) 2304 long $ fjoin ! $
+        assigns ! (rep ! 2816 (lit ! tt)) (from ! (stop !)) (init ! 42 refl (zeros-typed 𝓤 H A W 2816 l₆)) $
+        move ! (42 ∷ []) $ use1 W (some (λ (z : List ℕ). ‵ (Lies 𝓤 H A W 2816 l₆ z))) (zeros-lie 𝓤 H A W 2816 l₆) $ pick
+        ! (λ zs. fsplit ! $ feqL ! (λ long. feqI ! ℕ (length zs) 2816 long $ fjoin ! $
         assigns ! (addr ! (from ! (fld ! refl (hop ! (look-in ! 48 (sub ! 0 refl (whole !))) (stop !))))) (from ! (stop !)) (init ! 37 refl (tt, tt)) $
         assigns ! (agg ! (and-then ! (load ! (from ! (stop !)) (look ! 37 refl))
         (and-then ! (load ! (from ! (fld ! refl (stop !))) (look-in ! 48 (sub ! 1 refl (whole !)))) (no-more !))))
@@ -438,8 +441,8 @@ module _ {M : Type 1} (𝓤 : URA M) (H : Heap 𝓤) (A : Atoms 𝓤) (W : Given
         (LentAgain u32 κ₁ (ν ∷ []) q₁ γ₁ b₁ o₁ δ ts)))) (lends-again u32 κ₁ (ν ∷ []) q₁ γ₁ b₁ o₁ 𝓤 H A W (named 1)
         (named 1) ts) $ await ! tt $ pick ! (λ δ. split ! $
         lft-new ! tt (λ μ. move ! (4 ∷ []) $
-        use1 W (later (some (λ (ε : GName). ‵ (own-lent l₆ (μ ∷ []) ε zs) ⊛ ‵ (flent (μ ∷ []) (Held u32 2304 l₆ 0 ε)))))
-        (lends-local 𝓤 H A W 2304 l₆ (μ ∷ []) zs (named 2) rows-room) $ await ! tt $ pick ! (λ ε. split ! $
+        use1 W (later (some (λ (ε : GName). ‵ (own-lent l₆ (μ ∷ []) ε zs) ⊛ ‵ (flent (μ ∷ []) (Held u32 2816 l₆ 0 ε)))))
+        (lends-local 𝓤 H A W 2816 l₆ (μ ∷ []) zs (named 2) rows-room) $ await ! tt $ pick ! (λ ε. split ! $
         move ! (9 ∷ []) $ use1 W (‵ own-head ⊛ ‵ own-head) (shr-slice-copy 𝓤 H A W (named 0) κ₀ u8 .twice head (s-head ∷ [])) $ split ! $
         move ! (2 ∷ []) $ move ! (5 ∷ 0 ∷ []) $ join ! $ move ! (1 ∷ 0 ∷ []) $ join ! $ move ! (3 ∷ 0 ∷ []) $ join ! $
         move ! (4 ∷ 0 ∷ []) $ join ! $ move ! (5 ∷ 0 ∷ []) $ join ! $ use1 W
@@ -484,7 +487,7 @@ module _ {M : Type 1} (𝓤 : URA M) (H : Heap 𝓤) (A : Atoms 𝓤) (W : Given
         (comes-back u32 κ₁ (ν ∷ []) q₁ γ₁ b₁ o₁ 𝓤 H A W (named 1) (named 1) ts δ (z .1 .1 .0) table-room len) $
         await ! tt $ split ! $
         move ! (2 ∷ []) $ lft-end ! tt $ move ! (0 ∷ 6 ∷ 4 ∷ []) $ use3 W
-        (later (‵ (Lies 𝓤 H A W 2304 l₆ (z .1 .1 .1 .0)))) (local-back 𝓤 H A W 2304 l₆ (μ ∷ []) (z .1 .1 .1 .0) ε) $
+        (later (‵ (Lies 𝓤 H A W 2816 l₆ (z .1 .1 .1 .0)))) (local-back 𝓤 H A W 2816 l₆ (μ ∷ []) (z .1 .1 .1 .0) ε) $
         await ! tt $
         -- [own-rows; own-table; κ₁; κ₀; kept-head; κ₂; own-points; the locals]
         use0 W (raw (Count 𝓤 H A mem run .pre (to-count r))) (asks-count r is) $
@@ -512,8 +515,8 @@ module _ {M : Type 1} (𝓤 : URA M) (H : Heap 𝓤) (A : Atoms 𝓤) (W : Given
         move ! (1 ∷ []) $ split ! $
         lft-new ! tt (λ ρ. move ! (5 ∷ []) $
         use1 W (later (some (λ (ζ : GName). ‵ (own-rows 2 l₆ (ρ ∷ []) ζ (z .1 .1 .1 .0)) ⊛ ‵
-        (flent (ρ ∷ []) (Lies 𝓤 H A W 2304 l₆ (z .1 .1 .1 .0))))))
-        (shares-local 𝓤 H A W 2304 l₆ (ρ ∷ []) (z .1 .1 .1 .0) (named 2) rows-room) $ await ! tt $ pick !
+        (flent (ρ ∷ []) (Lies 𝓤 H A W 2816 l₆ (z .1 .1 .1 .0))))))
+        (shares-local 𝓤 H A W 2816 l₆ (ρ ∷ []) (z .1 .1 .1 .0) (named 2) rows-room) $ await ! tt $ pick !
         (λ ζ. split ! $
         assigns ! (addr ! (from ! (fld ! refl (hop ! (look-in ! 52 (sub ! 0 refl (whole !))) (stop !))))) (from ! (stop !)) (init ! 29 refl (tt, tt)) $
         assigns ! (agg ! (and-then ! (load ! (from ! (stop !)) (look ! 29 refl))
@@ -586,8 +589,8 @@ module _ {M : Type 1} (𝓤 : URA M) (H : Heap 𝓤) (A : Atoms 𝓤) (W : Given
         rewrite ! 0 (λ (j : ℕ). ‵ (own-table 0 (ν″ ∷ []) η (z .1 .1 .0) j)) len refl $
         lft-new ! tt (λ σ. move ! (4 ∷ []) $
         use1 W (later (some (λ (θ : GName). ‵ (own-rows 1 l₆ (σ ∷ []) θ (z .1 .1 .1 .0)) ⊛ ‵
-        (flent (σ ∷ []) (Lies 𝓤 H A W 2304 l₆ (z .1 .1 .1 .0))))))
-        (shares-local 𝓤 H A W 2304 l₆ (σ ∷ []) (z .1 .1 .1 .0) (named 1) rows-room) $ await ! tt $ pick !
+        (flent (σ ∷ []) (Lies 𝓤 H A W 2816 l₆ (z .1 .1 .1 .0))))))
+        (shares-local 𝓤 H A W 2816 l₆ (σ ∷ []) (z .1 .1 .1 .0) (named 1) rows-room) $ await ! tt $ pick !
         (λ θ. split ! $
         move ! (3 ∷ 0 ∷ []) $ join ! $ move ! (2 ∷ 0 ∷ []) $ join ! $ move ! (3 ∷ 0 ∷ []) $ join ! $ use1 W
         (raw (Arrange 𝓤 H A mem run .pre (to-arrange l₆ ν″ σ η θ (z .1 .1 .0) (z .1 .1 .1 .0))))
@@ -617,7 +620,7 @@ module _ {M : Type 1} (𝓤 : URA M) (H : Heap 𝓤) (A : Atoms 𝓤) (W : Given
         (subst (Room u32) (sym len) table-room) len′) $ await ! tt $ split ! $
         rewrite ! 0 (λ (j : ℕ). ‵ (own-table 1 κ₁ γ₁ (u′ .0) j)) len refl $
         move ! (2 ∷ []) $ lft-end ! tt $ move ! (0 ∷ 3 ∷ []) $ lent-back ! tt $
-        use1 W (‵ (froom (tyArray (tyInt w32) 2304) l₆ 0)) (local-room 𝓤 H A W 2304 l₆ (z .1 .1 .1 .0)) $
+        use1 W (‵ (froom (tyArray (tyInt w32) 2816) l₆ 0)) (local-room 𝓤 H A W 2816 l₆ (z .1 .1 .1 .0)) $
         -- [own-table; κ₁; κ₂; κ₀; last-points; kept-head; the locals]
         assigns ! (of-opd ! (load ! (from ! (stop !)) (look ! 41 refl))) (from ! (stop !)) (init ! 54 refl (filled-typed r _ is)) $ returns ! (look ! 54 refl) $
         forget ! 7 refl $ forget ! 9 refl $ forget ! 11 refl $ forget ! 13 refl $ forget ! 15 refl $ forget ! 17 refl $

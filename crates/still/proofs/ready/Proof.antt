@@ -42,7 +42,7 @@ returns-2 c =
     (length (a .rows .now)) (c8 .open-rows .kept .1 .1 .1 .0) (omega (arith, c14 .pre))
     (λ e. g .1 (k .0) accepted e .0) in (
       (
-        c .points-in .ensures _ _ (k .0) (shown .view) ∙ filled-on (a .total) (a .head .now) (a .table .now) (a .id .0)
+        c .points-in .ensures _ _ (k .0) (shown .followed .view) ∙ filled-on (a .total) (a .head .now) (a .table .now) (a .id .0)
             (a .n) (k .0) (k .1),
         (
           g .0 .1,

@@ -33,7 +33,7 @@ returns c =
           (λ w. let k = opened-file _ (sym (g .0 .0) ∙ w .1 .given .1) in let z =
           listed-on (a .total) (a .head .now) (a .table .now) (a .id .0) (length (a .list .now)) (a .list .now) (k .0)
           (k .1) in w .9 ∙ w .5 .ensures _ _ (k .0)
-          (file-shown (a .total) (a .head .now) (a .table .now) few (k .0) (k .1) _ (g .0 .1) _ 2304
+          (file-shown (a .total) (a .head .now) (a .table .now) few (k .0) (k .1) _ (g .0 .1) _ 2816
           (c5 .before .rows2 .given) (omega arith) (λ e. g .1 (k .0) (w .1 .given .1) e .0)) .0 ∙ ap toldListed z)
           (c5 .match .came),
       (
@@ -42,7 +42,7 @@ returns c =
             (λ w. let k = opened-file _ (sym (g .0 .0) ∙ w .1 .given .1) in let z =
             listed-on (a .total) (a .head .now) (a .table .now) (a .id .0) (length (a .list .now)) (a .list .now) (k .0)
             (k .1) in w .8 ∙ w .5 .ensures _ _ (k .0)
-            (file-shown (a .total) (a .head .now) (a .table .now) few (k .0) (k .1) _ (g .0 .1) _ 2304
+            (file-shown (a .total) (a .head .now) (a .table .now) few (k .0) (k .1) _ (g .0 .1) _ 2816
             (c5 .before .rows2 .given) (omega arith) (λ e. g .1 (k .0) (w .1 .given .1) e .0)) .1 ∙
             ap (λ (m : Answer (List ℕ)). listAfter m (a .list .now)) z) (c5 .match .came),
         c .before .before .arrange .ensures (a .total) (a .head .now) (a .table .now) (g .0 .1)

@@ -21,7 +21,7 @@ returns c =
       ⊎-elim (λ w. w .3 ∙ traced-off (a .total) (a .head .now) (a .table .now) _ _ _ (sym (g .0 .0) ∙ w .1 .given .1))
           (λ w. let k = opened-file _ (sym (g .0 .0) ∙ w .1 .given .1) in w .5 ∙
           w .4 .ensures _ (k .0) (file-shown (a .total) (a .head .now) (a .table .now) few (k .0) (k .1) _ (g .0 .1) _
-          2304 (c5 .before .rows2 .given) (omega arith) (λ e. g .1 (k .0) (w .1 .given .1) e .0)) ∙
+          2816 (c5 .before .rows2 .given) (omega arith) (λ e. g .1 (k .0) (w .1 .given .1) e .0)) ∙
           traced-on (a .total) (a .head .now) (a .table .now) _ _ (k .0) (k .1)) (c5 .match .came),
       c .before .before .arrange .ensures (a .total) (a .head .now) (a .table .now) (g .0 .1)
           (order-given (a .total) (a .head .now) (a .table .now) _ (g .0 .0) (g .1)),

@@ -30,7 +30,7 @@ returns-3 c =
     λ total f w q.
     let a = c12 .args in
     let i = on-output w (a .id .0) (a .p) (a .row .0) q _ (c8 .output-in .ensures) (c5 .if1 .left) (c2 .if2 .left) in
-    c .ended .ensures _ _ f (w .view) _ (c .before .trace-output .ensures total f w
+    c .ended .ensures _ _ f (w .followed .view) _ (c .before .trace-output .ensures total f w
     (trace-row w (a .id .0) (a .p) (a .row .0) q) (trace-image w (a .id .0) (a .p) (a .row .0) q) i)
     (end-listed w (a .id .0) (a .p) (a .row .0) q i) ∙ trace-inside w (a .id .0) (a .p) (a .row .0) q i
 

@@ -64,7 +64,7 @@ trace-output-returns t c =
     λ total f v h i l.
     let a = c5 .before .args in
     end-output v (a .row .0) h i (a .d) (a .passed) (a .p) l _ (c2 .declared-in .ensures) _
-    (c .before .undone .ensures _ f (v .view) h) _ (c .trace-reconstructed .ensures total f v h i)
+    (c .before .undone .ensures _ f (v .followed .view) h) _ (c .trace-reconstructed .ensures total f v h i)
 
 trace-reconstructed-returns : (t : ℕ) → trace-reconstructed-lts.Need-returns (reconstructed-claims t) (trace-reconstructed-at t) trace-reconstructed.Post
 trace-reconstructed-returns t c =

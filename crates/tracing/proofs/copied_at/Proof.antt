@@ -9,7 +9,7 @@ returns c =
     λ total head f d h q.
     let a = c .before .before .before .args in
     copied-source d (a .row .0) h q (c .input-of .result) (a .p)
-    (c .input-of .ensures head _ f (d .view) (d .resolved) h)
+    (c .input-of .ensures head _ f (d .followed .view) (d .resolved) h)
 
 pub copied-at-spec : {M : Type 1} → statement M
 copied-at-spec = tie.close (tie.spec (search needs) returns)

@@ -11,7 +11,7 @@ returns c =
     λ total head f d h g q e i.
     let a = c .before .before .before .before .before .args in
     let k = c .before .before .input-of in
-    absurd (tile-wide d (a .row .0) h g q (a .p) i (k .result .0) (k .ensures head _ f (d .view) (d .resolved) h) _
+    absurd (tile-wide d (a .row .0) h g q (a .p) i (k .result .0) (k .ensures head _ f (d .followed .view) (d .resolved) h) _
     (c .before .output-in .ensures) (c .if1 .taken))
 
 returns-2 : tie.Need-returns-2
@@ -19,7 +19,7 @@ returns-2 c =
     λ total head f d h g q e i.
     let a = c .before .before .before .before .before .before .args in
     let k = c .before .before .before .input-of in
-    absurd (tile-high d (a .row .0) h g q (a .p) i (k .result .0) (k .ensures head _ f (d .view) (d .resolved) h) _
+    absurd (tile-high d (a .row .0) h g q (a .p) i (k .result .0) (k .ensures head _ f (d .followed .view) (d .resolved) h) _
     (c .before .before .output-in .ensures) (c .if2 .taken))
 
 cast-j : tie.Need-cast-j
@@ -59,9 +59,9 @@ returns-3 c =
     λ total head f d h g q e i.
     let a = c .before .before .before .before .before .before .before .args in
     let k = c .before .before .before .before .input-of in
-    tiled-source d (a .row .0) h g q (a .p) i (k .result .0) (k .ensures head _ f (d .view) (d .resolved) h) _
+    tiled-source d (a .row .0) h g q (a .p) i (k .result .0) (k .ensures head _ f (d .followed .view) (d .resolved) h) _
     (c .before .before .before .output-in .ensures) (a .columns) e (c .input-of2 .result)
-    (c .input-of2 .ensures head _ f (d .view) (d .resolved) h)
+    (c .input-of2 .ensures head _ f (d .followed .view) (d .resolved) h)
 
 pub tiled-at-spec : {M : Type 1} → statement M
 tiled-at-spec =

@@ -14,18 +14,18 @@ use Rattle.fields.specs.Lists.{member}
 use Rattle.boxes.specs.Answer.{ok}
 use Rattle.boxes.specs.Box.{kindOf, bodyOf}
 use Rattle.contents.specs.Iinf.{idsOf}
-use Rattle.contents.specs.Iloc.{Extent}
 use Rattle.contents.specs.Ipco.{GoodContent}
 use Rattle.contents.specs.Iref.{targetsIn}
 use Rattle.contents.specs.File.{File}
 use Rattle.pictures.specs.Scene.{Picture, Scene, pictureAt, outputOf}
 use Rattle.pictures.specs.Depth.{depth}
-use Rattle.rules.specs.Joined.{itemAt, locationOf, associationsOf, targetsOf, noAssociation}
+use Rattle.rules.specs.Joined.{itemAt, locationOf, associationsOf, targetsOf, linksOf, noExtent, noAssociation}
 use Rattle.rules.specs.Places.{Places, fileOffset}
 use Rattle.rules.specs.Words.{associationWord}
-use Rattle.rules.specs.Rules.{rule13-14, rule17}
+use Rattle.rules.specs.Rules.{rule13-30-14, rule17}
 use Rattle.records.specs.inner.Raw.{Bounded, capped}
 use Rattle.records.specs.inner.Rows.{Distinct}
+use Rattle.records.specs.inner.Named.{extentsBegin}
 
 abbrev pub idOf : File → ℕ → ℕ
 idOf f r = itemAt f r .id
@@ -38,13 +38,11 @@ recordWord t r k = getD t (16 + 16 * r + k) 0
 abbrev pub wide : List ℕ → ℕ → ℕ
 wide t k = getD t k 0 * 4294967296 + getD t (k + 1) 0
 
-abbrev pub noExtent : Extent
-noExtent = record { index = 0; offset = 0; size = 0 }
-
 pub record Sound (head : List ℕ) (pl : Places) (f : File) : Type 0 where
   pub indexed : (id j : ℕ) → j < length (associationsOf f id) → getD (associationsOf f id) j noAssociation .index ≤ length (f .properties)
   pub held : (k : ℕ) → k < length (f .properties) → GoodContent (kindOf (getD (f .properties) k [])) (bodyOf (getD (f .properties) k []))
   pub listed : (id j : ℕ) → j < length (targetsOf f id) → member (getD (targetsOf f id) j 0) (idsOf (f .items)) ≡ true
+  pub linked : (id j : ℕ) → j < length (linksOf f id) → member (getD (linksOf f id) j 0) (idsOf (f .items)) ≡ true
   pub idat-room : pl .idat + length (f .idat) ≤ length head
   pub idat-part : take (length (f .idat)) (drop (pl .idat) head) ≡ f .idat
 
@@ -69,6 +67,8 @@ pub record TableOf (t head : List ℕ) (pl : Places) (f : File) : Type 0 where
   pub target : (r j : ℕ) → r < length (f .items) → j < length (targetsOf f (idOf f r)) →
       getD t (7184 + (recordWord t r 5 + j)) 0 ≡ getD (targetsOf f (idOf f r)) j 0
   pub extent-room : (r : ℕ) → r < length (f .items) → recordWord t r 7 + length (locationOf f (idOf f r) .extents) ≤ 512
+  pub extent-first : (r : ℕ) → r < length (f .items) → 0 < length (locationOf f (idOf f r) .extents) →
+      recordWord t r 7 ≡ extentsBegin (f .locations) (idOf f r)
   pub extent-count : (r : ℕ) → r < length (f .items) → recordWord t r 8 ≡ length (locationOf f (idOf f r) .extents)
   pub extent-size : (r j : ℕ) → r < length (f .items) → j < length (locationOf f (idOf f r) .extents) →
       wide t (9232 + 4 * (recordWord t r 7 + j) + 2) ≡ getD (locationOf f (idOf f r) .extents) j noExtent .size
@@ -95,7 +95,7 @@ pub record SizesAre (t : List ℕ) (s : Scene) : Type 0 where
   pub depths : (r : ℕ) → r < length s → recordWord t r 14 ≡ depth s r
 
 abbrev pub AllPlaced : ℕ → List ℕ → File → Type 0
-AllPlaced total head f = (r : ℕ) → r < length (f .items) → rule13-14 total head f (itemAt f r) ≡ ok tt
+AllPlaced total head f = (r : ℕ) → r < length (f .items) → rule13-30-14 total head f (itemAt f r) ≡ ok tt
 
 abbrev pub AllFed : ℕ → List ℕ → File → Type 0
 AllFed total head f = (r : ℕ) → r < length (f .items) → rule17 total head f (itemAt f r) ≡ ok tt

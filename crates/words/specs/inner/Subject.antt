@@ -18,13 +18,13 @@ use Rattle.words.specs.declared.PlaceKind.the-variants.{Nothing, Box, It
 abbrev pub boxNumbers : List ℕ
 boxNumbers = 3 ∷ 6 ∷ 7 ∷ 8 ∷ 9 ∷ 10 ∷ 11 ∷ []
 
--- the place is "item ID"; of 12 "its ID", that of the primary item; of 29 "the item ID" (document 02)
+-- the place is "item ID"; of 12 "its ID", that of the primary item; of 29 "the item ID", of 30 "its ID" (document 02)
 abbrev pub itemNumbers : List ℕ
-itemNumbers = 12 ∷ 13 ∷ 14 ∷ 15 ∷ 16 ∷ 17 ∷ 18 ∷ 19 ∷ 20 ∷ 29 ∷ []
+itemNumbers = 12 ∷ 13 ∷ 14 ∷ 15 ∷ 16 ∷ 17 ∷ 18 ∷ 19 ∷ 20 ∷ 29 ∷ 30 ∷ []
 
--- the place is "asked ID"; of 26 and 28 "the asked item's ID where one is asked, else 0" (document 02)
+-- the place is "asked ID"; of 26, 28 and 31 "the asked item's ID where one is asked, else 0" (document 02)
 abbrev pub askedNumbers : List ℕ
-askedNumbers = 21 ∷ 22 ∷ 23 ∷ 24 ∷ 25 ∷ 26 ∷ 28 ∷ []
+askedNumbers = 21 ∷ 22 ∷ 23 ∷ 24 ∷ 25 ∷ 26 ∷ 28 ∷ 31 ∷ []
 
 unfoldable pub kindOf : ℕ → PlaceKind
 kindOf n =

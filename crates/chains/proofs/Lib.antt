@@ -1,3 +1,0 @@
-pub mod ChainLaws
-pub mod ByteLaws
-pub mod Examples
