@@ -1,4 +1,4 @@
-/* ask_still FILE: whether a still is accepted, and the sizes of its primary item. After `rt staticlib still_c`:
+/* ask_still FILE: whether a still is accepted, and the sizes of its primary item. After `tools/archive`:
  * gcc -std=c99 -Iinclude examples/ask_still.c target/staticlib/libstill_c.a -o ask_still
  */
 #include <inttypes.h>

@@ -1,4 +1,4 @@
-/* list_items FILE [ID]: the items of a still in the order of the file; or the one with an ID. After `rt staticlib still_c`:
+/* list_items FILE [ID]: the items of a still in the order of the file; or the one with an ID. After `tools/archive`:
  * gcc -std=c99 -Iinclude examples/list_items.c target/staticlib/libstill_c.a -o list_items
  */
 #include <inttypes.h>

@@ -1,5 +1,5 @@
 /* print_body FILE ITEM: the body of a grid or an overlay, joined from wherever its bytes lie, in hex; of a grid also in words. After
- * `rt staticlib still_c`: gcc -std=c99 -Iinclude examples/print_body.c target/staticlib/libstill_c.a -o print_body
+ * `tools/archive`: gcc -std=c99 -Iinclude examples/print_body.c target/staticlib/libstill_c.a -o print_body
  */
 #include <inttypes.h>
 #include <stdio.h>

@@ -1,4 +1,4 @@
-/* The still reader's nine questions, for C and C++. Link libstill_c.a, which `rt staticlib still_c` writes to target/staticlib/
+/* The still reader's nine questions, for C and C++. Link libstill_c.a, which `tools/archive` writes to target/staticlib/
  * (x86-64 Linux; it needs only memcpy and memset). examples/ask_still.c shows a whole program.
  *
  * What a caller lends (still_transforms reads no file and is lent out alone):

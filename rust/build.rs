@@ -12,7 +12,7 @@ fn main() {
     if (processor.as_str(), system.as_str()) != ("x86_64", "linux") {
         println!("cargo:warning=questions and their tests left out: the archive is for x86_64 linux, not for {processor} {system} (install Rust's target x86_64-unknown-linux-gnu and build with --target)");
     } else if !archive.exists() {
-        println!("cargo:warning=questions and their tests left out: no target/staticlib/libstill_c.a (`rt staticlib still_c` writes it)");
+        println!("cargo:warning=questions and their tests left out: no target/staticlib/libstill_c.a (`tools/archive` writes it)");
     } else {
         let place = archive.canonicalize().unwrap();
         println!("cargo:rustc-link-search=native={}", place.parent().unwrap().display());

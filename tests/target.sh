@@ -2,9 +2,8 @@
 # Sourced by the scripts that link the archive, which is x86-64 Linux code. Gives
 #   cc    a C compiler for it: CC or cc on x86-64; elsewhere Debian's cross compiler (TARGET_CC), which links statically,
 #         so that no x86-64 C library has to be installed
-#   run   runs one of its programs: as it is on x86-64; elsewhere in the kit's own emulator or else in Debian's
+#   run   runs one of its programs: as it is on x86-64; elsewhere in Debian's emulator
 #   lack  nothing, or in one line what is missing here and what to install
-kit=$(dirname "$(dirname "$(readlink -f "$(command -v rt)")")")
 cc=${CC:-cc} lack=''
 run() { "$@"; }
 case $(uname -sm) in
@@ -12,8 +11,7 @@ case $(uname -sm) in
 Linux*)
     cross=${TARGET_CC:-x86_64-linux-gnu-gcc}
     cc="$cross -static"
-    emulator=$kit/on/$(uname -m)/toolchain/bin/qemu-x86_64
-    [ -x "$emulator" ] || emulator=qemu-x86_64
+    emulator=qemu-x86_64
     # The plainest processor: the C library's memory functions for newer ones take eight times as long in emulation.
     run() { "$emulator" -cpu qemu64 "$@"; }
     command -v "$emulator" >/dev/null || lack="no $emulator for the archive's x86-64 code (apt-get install qemu-user)"

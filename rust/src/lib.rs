@@ -1,7 +1,7 @@
 //! The still reader's nine questions. Every answer is proved for all bytes, numbers and lengths; this package only turns the archive's eight numbers into Rust's types.
 //!
 //! A question is asked of a [`Still`], the file's first bytes and its whole length, and is lent a [`Table`]; only [`transforms`] reads no file.
-//! The archive is for x86-64 Linux and is written by `rt staticlib still_c`; without it only [`Fault`] and what reads a [`Table`] are here.
+//! The archive is for x86-64 Linux and is written by `tools/archive`; without it only [`Fault`] and what reads a [`Table`] are here.
 
 mod fault;
 #[cfg(still_linked)]

@@ -4,6 +4,8 @@
 // size, 3 trace, 4 sources, 5 property, 6 orientation, 7 transforms, 8 points, 9 body), an item ID, or the orientation for 7 (4),
 // and two numbers (4 each); for 8 the first is how many points, and x and y of each follow (4 each).
 // The table is never cleared between calls, and has 20 words more than it needs.
+#![tactic(auto)]
+
 mod body;
 mod points;
 

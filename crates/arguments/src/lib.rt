@@ -1,4 +1,6 @@
 // What the arguments of a program say: numbers, and the words of the questions.
+#![tactic(auto)]
+
 ghost use Rattle.std.specs.Prelude.{◌≡◌};
 ghost use Rattle.arguments.specs.inner.Number.{digit_of, number_of};
 ghost use Rattle.arguments.specs.inner.Word.{same, word_of, later_word_of, numbers_of, may_be_alone};
@@ -62,7 +64,7 @@ pub fn is_word(s: &[u8], word: &[u8]) -> bool
     true
 }
 
-#[derive(Drop)]
+#[derive(Clone, Copy)]
 pub enum Word {
     Verdict,
     Why,

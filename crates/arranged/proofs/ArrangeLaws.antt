@@ -5,18 +5,17 @@ use native.Mathlib.Nat.{mod-lt, div-add-mod', not-suc-le-zero}
 use native.Mathlib.Omega.{arith}
 use native.Mathlib.Decide.{dec_lt}
 use mathlib.Core.Path.{◌≡◌, refl, sym, ap, ◌∙◌}
-use mathlib.Core.List.{List, ◌++◌, map}
+use mathlib.Core.List.{List, ◌++◌}
 use mathlib.Core.Bool.{Bool, true, false}
-use mathlib.Core.Logic.{◌⊎◌, inl, inr}
+use mathlib.Core.Logic.{inl, inr}
 use lib.ListN.{length, get_or, replicate, drop, length-append, length-replicate, get_or-map}
 use lib.Seq.{ext_get_or}
 use lib.Dec.{leb}
 use borrow.Author.Tests.{leb-true, leb-false}
-use Rattle.fields.specs.Choice.{pick}
 use Rattle.fields.proofs.FieldLaws.{pick_yes, pick_no}
 use Rattle.boxes.specs.Answer.{Answer, ok, refuse}
 use Rattle.contents.specs.File.{File}
-use Rattle.rules.specs.Words.{table_words, Filed, by_id, file_words, words_of}
+use Rattle.rules.specs.Words.{Filed, by_id, file_words, words_of}
 use Rattle.rules.specs.Opening.{accepted, after_by, left_by, after, file_after}
 use Rattle.rules.proofs.RuleLaws.{accepted-both}
 use Rattle.rules.proofs.OrderLaws.{no_filed, row_at, order_placed, read-few, words_long, words-same-length, words_count, words-moved, words_placed, words-other}

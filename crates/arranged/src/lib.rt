@@ -1,5 +1,7 @@
 // The table's records in rising ID order, and each item's place in `iinf` in its sixteenth word (document 02, Q-6). While
 // a file is read, judged and asked, the record of an item stands in the row of its place: this is the last step.
+#![tactic(auto)]
+
 ghost use Rattle.std.specs.Prelude.{◌≡◌, ℕ, ◌+◌, ◌*◌, ◌≤◌, ◌<◌, length, get_or, true, List};
 ghost use Rattle.boxes.specs.Answer.{ok};
 ghost use Rattle.contents.specs.File.{File};

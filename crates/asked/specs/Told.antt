@@ -1,7 +1,7 @@
 -- The code's values for the answers that the table of an accepted file gives: "A refusal returns number and place".
 --   told_verdict, told_pictured, told_sized, told_asked    the code's value for an answer
 --   index_in f id k       which property the association k, from 1, of an item names; 21, then 25
-use Rattle.std.specs.Prelude.{ℕ, ◌-◌, List, Bool, ◌&&◌, length, get_or, leb}
+use Rattle.std.specs.Prelude.{ℕ, ◌-◌, ◌&&◌, length, get_or, leb}
 use Rattle.boxes.specs.Answer.{Answer, ok, refuse, check, ◌>>=◌, ◌>>◌}
 use Rattle.contents.specs.File.{File}
 use Rattle.rules.specs.Joined.{associations_of, no_association}

@@ -1,4 +1,6 @@
 // What is asked of the table of an accepted file: the row of a picture, and the questions that the table alone answers.
+#![tactic(auto)]
+
 ghost use Rattle.std.specs.Prelude.{◌≡◌, List, ℕ};
 ghost use Rattle.contents.specs.File.{File};
 ghost use Rattle.rules.specs.Places.{Places};

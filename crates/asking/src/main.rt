@@ -1,5 +1,7 @@
 // The asking program: a still on standard input (`transforms` reads none), a question in the arguments, fields parted by tabs
 // as the answer, in one line; of `crop` and `points` in several.
+#![tactic(auto)]
+
 mod answers;
 mod body;
 mod crop;
@@ -8,9 +10,10 @@ mod points;
 use arguments::{Number, Word};
 use between::Seam;
 use input::Input;
+use std::env::Env;
 
 // The numbers that follow a question's word: an item's ID, and x and y of one pixel and of another. Those that it does not take are 0.
-#[derive(Drop)]
+#[derive(Clone, Copy)]
 struct Numbers {
     id: u32,
     x: u32,
@@ -40,30 +43,30 @@ enum Asked {
 }
 
 // The number that argument i spells, or 0 where there are no more than i.
-fn number_at(i: usize) -> Number {
-    if os::arg_count() <= i {
+fn number_at(rt: &impl Env, i: usize) -> Number {
+    if input::argument_count(rt) <= i {
         return Number::Is(0);
     }
     let mut text = [0u8; 16];
-    let n = os::arg(i, &mut text);
+    let n = input::argument(rt, i, &mut text);
     arguments::number_of(&text[..n])
 }
 
 // The numbers behind the word.
-fn read_numbers() -> Given {
-    let Number::Is(id) = number_at(2) else {
+fn read_numbers(rt: &impl Env) -> Given {
+    let Number::Is(id) = number_at(rt, 2) else {
         return Given::Bad;
     };
-    let Number::Is(x) = number_at(3) else {
+    let Number::Is(x) = number_at(rt, 3) else {
         return Given::Bad;
     };
-    let Number::Is(y) = number_at(4) else {
+    let Number::Is(y) = number_at(rt, 4) else {
         return Given::Bad;
     };
-    let Number::Is(to_x) = number_at(5) else {
+    let Number::Is(to_x) = number_at(rt, 5) else {
         return Given::Bad;
     };
-    let Number::Is(to_y) = number_at(6) else {
+    let Number::Is(to_y) = number_at(rt, 6) else {
         return Given::Bad;
     };
     Given::Are(Numbers {
@@ -84,9 +87,9 @@ fn seam_of(n: Numbers) -> Seam {
     }
 }
 
-fn read_word() -> Word {
+fn read_word(rt: &impl Env) -> Word {
     let mut text = [0u8; 16];
-    let n = os::arg(1, &mut text);
+    let n = input::argument(rt, 1, &mut text);
     arguments::word_of(&text[..n])
 }
 
@@ -99,20 +102,20 @@ fn is_right(word: Word, numbers: usize) -> bool {
 }
 
 // The question that the arguments ask, all of them and no more.
-fn read_question() -> Asked {
-    let word = read_word();
+fn read_question(rt: &impl Env) -> Asked {
+    let word = read_word(rt);
     if let Word::Unknown = word {
         return Asked::Unclear;
     }
     // The program's own name comes first, then the word.
-    let count = os::arg_count();
+    let count = input::argument_count(rt);
     if count < 2 {
         return Asked::Unclear;
     }
     if !is_right(word, count - 2) {
         return Asked::Unclear;
     }
-    let given = read_numbers();
+    let given = read_numbers(rt);
     match given {
         Given::Bad => Asked::Unclear,
         Given::Are(numbers) => Asked::Is(Question {
@@ -156,9 +159,9 @@ fn print_use() {
     );
 }
 
-fn ask(q: Question) {
+fn ask(rt: &HostRuntime, q: Question) {
     let mut head = io::large_buffer();
-    let got = input::read_input(&mut head);
+    let got = input::read_input(rt, &mut head);
     match got {
         Input::Failed => input::print_failed(),
         Input::Is { here, total } => print_answer(q, &head[..here], total),
@@ -166,19 +169,19 @@ fn ask(q: Question) {
 }
 
 // A question about a file reads it first.
-fn answer(q: Question) {
+fn answer(rt: &HostRuntime, q: Question) {
     let word = q.word;
     let n = q.numbers;
     if let Word::Transforms = word {
         return answers::print_transforms(n.id);
     }
-    ask(q);
+    ask(rt, q);
 }
 
-fn main() {
-    let asked = read_question();
+fn main(rt: HostRuntime) {
+    let asked = read_question(&rt);
     match asked {
         Asked::Unclear => print_use(),
-        Asked::Is(q) => answer(q),
+        Asked::Is(q) => answer(&rt, q),
     }
 }

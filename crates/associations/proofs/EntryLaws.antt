@@ -65,7 +65,8 @@ module _ (used most w p : ℕ) (s : List ℕ) (at : ℕ) where
           (reads_field p s at 1 _ (omega arith)
           ∙ rw (reads_bind, ← is) (reads_yes p (drop (at + 1) s) 9 _ _ (le-leb _ _ few) ∙ sym (read_reads _ p (drop (at + 1) s))))
 
-      module _ (row : ℕ) (t u : List ℕ) (r : Associated) (a : AssociatedIs ((many (association_form w most) k []).read p (drop (at + 1) s)) s k used t u r) where
+      module _ (row : ℕ) (t u : List ℕ) (r : Associated)
+          (a : AssociatedIs ((many (association_form w most) k []).read p (drop (at + 1) s)) s k used t u r) where
         pub list-refused : (x : Refusal) → r ≡ associated.Refused x → (list_answer ≡ refuse x.number x.place) × KeptIds t u
         list-refused x e =
             let b : AssociatedIs ((many (association_form w most) k []).read p (drop (at + 1) s)) s k used t u
@@ -75,7 +76,8 @@ module _ (used most w p : ℕ) (s : List ℕ) (at : ℕ) where
         pub list_put : (end : ℕ) → r ≡ associated.Done end → (v : List ℕ) →
             v ≡ sets u (16 + 16 * row + 3) (span_words used k) → ListedHere list_answer s row used t v end k
         list_put end e v q =
-            let b : AssociatedHere ((many (association_form w most) k []).read p (drop (at + 1) s)) s k used t u end = subst (AssociatedIs _ s k used t u) e a in
+            let b : AssociatedHere ((many (association_form w most) k []).read p (drop (at + 1) s)) s k used t u end =
+            subst (AssociatedIs _ s k used t u) e a in
             record {
               list = b.list;
               read = count-then ∙ b.read;

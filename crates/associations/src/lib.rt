@@ -1,4 +1,6 @@
 // `ipma`: the associations of properties with items, into the table.
+#![tactic(auto)]
+
 ghost use Rattle.std.specs.Prelude.{◌≡◌, List, [], ◌⊎◌, ℕ, ◌+◌, ◌*◌, ◌%◌, ◌≤◌, ◌<◌, length, drop, leb, eqb};
 ghost use Rattle.std.proofs.lemmas.List.Edits.{sets};
 ghost use Rattle.fields.specs.Choice.{pick};
@@ -105,7 +107,7 @@ fn first_of(used: usize, k: usize) -> u32
 }
 
 // How the entries of an `ipma` are written: its version, the bytes of an association, and how many properties there are.
-#[derive(Drop)]
+#[derive(Clone, Copy)]
 pub struct Written {
     pub version: u32,
     pub word: usize,

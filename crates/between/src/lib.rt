@@ -1,8 +1,10 @@
 // The points of a seam between two pixels, for ./ask and ./draw: as many as the longer way has pixels, at most 512.
+#![tactic(auto)]
+
 ghost use Rattle.std.specs.Prelude.{◌≡◌, ◌≤◌, ◌<◌, ◌*◌, length};
 ghost use Rattle.between.specs.inner.Seam.{apart, count_of, step_of, on_the_way};
 
-#[derive(Drop)]
+#[derive(Clone, Copy)]
 pub struct Seam {
     pub x: u32,
     pub y: u32,

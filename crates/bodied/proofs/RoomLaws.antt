@@ -7,7 +7,7 @@ use lib.ListN.{length, drop, replicate}
 use lib.Dec.{leb}
 use borrow.Author.Tests.{le-leb, lt-leb}
 use Rattle.fields.proofs.FieldLaws.{both, pick_yes, pick_no}
-use Rattle.boxes.specs.Answer.{Answer, refuse, check, ◌>>◌}
+use Rattle.boxes.specs.Answer.{refuse, check, ◌>>◌}
 use Rattle.rules.specs.Words.{table_words}
 use Rattle.rules.specs.Opening.{accepted, opened, after_by, after}
 use Rattle.bodied.specs.Body.{longest_body, opened_for, room_left}

@@ -8,7 +8,6 @@ use Rattle.std.specs.Prelude.{ℕ, List, [], ◌++◌, Bool, ◌||◌, length, r
 use Rattle.fields.specs.Choice.{pick}
 use Rattle.boxes.specs.Answer.{Answer, ok, refuse, check, ◌>>=◌, ◌>>◌}
 use Rattle.boxes.specs.Types.{grid, iovl}
-use Rattle.contents.specs.Iinf.{Item}
 use Rattle.contents.specs.File.{File}
 use Rattle.rules.specs.Joined.{item_at}
 use Rattle.rules.specs.Bytes.{body_of}

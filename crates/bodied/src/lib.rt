@@ -1,4 +1,6 @@
 // The body of a picture, asked of the table of an accepted file (document 02, Q-7).
+#![tactic(auto)]
+
 ghost use Rattle.std.specs.Prelude.{◌≡◌, true, [], ℕ, ◌≤◌, ◌<◌, length};
 ghost use Rattle.fields.specs.Choice.{pick};
 ghost use Rattle.boxes.specs.Types.{image};

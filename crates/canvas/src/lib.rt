@@ -1,4 +1,6 @@
 // The marks of an SVG picture, written to standard output. What they tell of a file is for crate `sketch` to know.
+#![tactic(auto)]
+
 mod mark;
 mod number;
 mod page;

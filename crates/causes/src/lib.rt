@@ -1,6 +1,8 @@
 // What a refusal says of the file at hand: which of the causes that its number joins it is. The number and the place
 // are the library's; for the words the file is looked at again. Where that tells nothing more, they are the number's
 // own (crate `words`).
+#![tactic(auto)]
+
 mod chain;
 mod in_box;
 mod of_item;

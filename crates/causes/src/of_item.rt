@@ -78,7 +78,7 @@ fn print_reach(fd: i32, table: &[u32], rows: &[u32], row: ItemRow, total: u64) {
 }
 
 // What is looked for among an item's properties, or among its inputs.
-#[derive(Drop)]
+#[derive(Clone, Copy)]
 enum Sought {
     // An essential property that this reader does not know.
     Unknown,

@@ -30,7 +30,7 @@ use Rattle.boxes.proofs.AnswerLaws.{
   refuse-check,
 }
 use Rattle.boxes.proofs.ChildLaws.{children-sound, children-complete, first-sound, first-complete, of_append, of_yes}
-use Rattle.boxes.proofs.KindLaws.{Without, Split, of_is, of_none, split_one}
+use Rattle.boxes.proofs.KindLaws.{Without, of_is, of_none, split_one}
 use Rattle.boxes.proofs.TopLaws.{meta-sound, meta-complete}
 use Rattle.forms.proofs.WholeLaws.{
   whole-sound,

@@ -12,7 +12,7 @@ use borrow.Author.Tests.{eq-eqb, ne_eqb, le-leb, lt-leb}
 use Rattle.fields.specs.Field.{be_at}
 use Rattle.boxes.specs.Answer.{Answer, ok, refuse}
 use Rattle.boxes.specs.Types.{pict}
-use Rattle.forms.specs.Form.{Got, got, give, demand, field, whole, front, ◌>>=◌, ◌>>◌}
+use Rattle.forms.specs.Form.{Got, got, give, demand, field, whole, front, ◌>>=◌}
 use Rattle.boxes.specs.declared.Refusal.{Refusal}
 use Rattle.forms.proofs.StepLaws.{
   reads,

@@ -2,9 +2,7 @@
 use Prim.Native.Nat.{ℕ, ◌+◌}
 use mathlib.Core.Path.{◌≡◌, sym, ap, ◌∙◌}
 use mathlib.Core.List.{List, [], ◌∷◌}
-use lib.Dec.{eqb}
 use Rattle.boxes.specs.Answer.{ok}
-use Rattle.boxes.specs.Types.{dimg}
 use Rattle.boxes.specs.Box.{head_of, kind_of, body_of}
 use Rattle.boxes.proofs.AnswerLaws.{bind_ok, ok_bind, ok_inj}
 use Rattle.boxes.proofs.ChildLaws.{contain-sound, contain-complete}

@@ -14,7 +14,7 @@ use Rattle.fields.specs.Lists.{All}
 use Rattle.fields.proofs.FieldLaws.{both}
 use Rattle.fields.proofs.TestLaws.{untrue, or_either, and-false}
 use Rattle.boxes.specs.Answer.{Answer, ok, refuse}
-use Rattle.boxes.specs.Types.{known, ispe, clap, irot, imir, ipco, ipma, dimg}
+use Rattle.boxes.specs.Types.{known, ispe, clap, irot, imir, ipco, ipma}
 use Rattle.boxes.specs.Box.{head_of, kind_of, body_of, IsBox, flat}
 use Rattle.boxes.specs.Children.{of_kind, filled, once}
 use Rattle.boxes.proofs.AnswerLaws.{

@@ -9,15 +9,15 @@
 -- Where the rows of the refusal table stand: 2 in `Broken`; 4 and 5 in `TopBreaks`; 3 in `BadTop`, `BadBox` and
 -- `spare_bytes`; 7 in `ChildTwice`, `one_missing` and `other-boxes`; 8 in `field`, `left_over`, `too_few` and `left_behind`;
 -- 6, 9, 10 and 11 are lines `demand` of the forms, and 10 also `no_infe`, 9 also `too_many`.
-use Rattle.std.specs.Prelude.{ℕ, ◌+◌, ◌≤◌, ◌<◌, ◌≡◌, List, [], ◌∷◌, ◌++◌, true, length, eqb}
+use Rattle.std.specs.Prelude.{ℕ, ◌+◌, ◌≤◌, ◌<◌, ◌≡◌, List, [], ◌∷◌, ◌++◌, true, length}
 use Rattle.fields.specs.Lists.{member, All}
-use Rattle.boxes.specs.Types.{hdlr, pitm, iinf, iloc, iprp, iref, known, infe, ipco, ipma, ispe, clap, irot, imir, dimg}
+use Rattle.boxes.specs.Types.{hdlr, pitm, iinf, iloc, iprp, iref, known, infe, ipco, ipma, ispe, clap, irot, imir}
 use Rattle.boxes.specs.Box.{head_of, kind_of, body_of, IsBox, flat}
 use Rattle.boxes.specs.Children.{Few, of_kind}
 use Rattle.boxes.specs.Top.{FirstMeta}
-use Rattle.forms.specs.Form.{Form, Fronts, WholeBreaks}
+use Rattle.forms.specs.Form.{Fronts, WholeBreaks}
 use Rattle.forms.specs.Lead.{LeadBreaks}
-use Rattle.contents.specs.Full.{Full, full, upto, id_bytes}
+use Rattle.contents.specs.Full.{full, upto, id_bytes}
 use Rattle.contents.specs.Hdlr.{hdlr_form}
 use Rattle.contents.specs.Pitm.{pitm_form}
 use Rattle.contents.specs.Iinf.{Item, ids_of, infe_form, iinf-count}

@@ -1,21 +1,21 @@
 -- A file: what its `meta` says, as lists in file order. It holds no offset.
 --   file_of p at s            the file in the content s, which begins at `at`, of the `meta` at p: the first fault of 6 to 11 (and 3), or the file
 --   read_file total head      the whole reading: 2, then 3 to 5, then the `meta`
-use Rattle.std.specs.Prelude.{ℕ, ◌+◌, List, [], ◌∷◌, Bool, ◌&&◌, length, leb}
+use Rattle.std.specs.Prelude.{ℕ, ◌+◌, List, [], ◌∷◌, ◌&&◌, length, leb}
 use Rattle.boxes.specs.Answer.{Answer, ok, check, ◌>>=◌, ◌>>◌}
 use Rattle.boxes.specs.Types.{hdlr, pitm, iinf, iloc, iprp, iref, idat, known}
 use Rattle.boxes.specs.Box.{head_of, body_of}
 use Rattle.boxes.specs.Children.{of_kind, children, the_one, place_of}
-use Rattle.boxes.specs.Top.{PlacedBox, meta_in}
-use Rattle.forms.specs.Form.{Form, whole, front}
+use Rattle.boxes.specs.Top.{meta_in}
+use Rattle.forms.specs.Form.{whole, front}
 use Rattle.forms.specs.Lead.{lead}
-use Rattle.contents.specs.Full.{Full, full, upto}
+use Rattle.contents.specs.Full.{full, upto}
 use Rattle.contents.specs.Hdlr.{hdlr_form}
 use Rattle.contents.specs.Pitm.{pitm_form}
 use Rattle.contents.specs.Iinf.{Item, ids_of, items}
 use Rattle.contents.specs.Iloc.{Location, iloc_form}
 use Rattle.contents.specs.Ipma.{IpmaEntry}
-use Rattle.contents.specs.Iprp.{IprpContent, iprp_content}
+use Rattle.contents.specs.Iprp.{iprp_content}
 use Rattle.contents.specs.Iref.{Reference, IrefContent, no_references, references}
 
 pub record File : Type 0 where

@@ -1,7 +1,7 @@
 -- `iinf`: the items, in table order.
 --   Item              what an `infe` says of an item;   ids_of items    their IDs
 --   items p at s      the items in the content s, which begins at `at`, of the `iinf` at p
-use Rattle.std.specs.Prelude.{ℕ, ◌%◌, List, [], ◌∷◌, ◌++◌, map, Bool, not, leb, eqb}
+use Rattle.std.specs.Prelude.{ℕ, ◌%◌, List, [], ◌∷◌, ◌++◌, map, not, leb, eqb}
 use Rattle.fields.specs.Choice.{pick}
 use Rattle.fields.specs.Lists.{member}
 use Rattle.boxes.specs.Answer.{Answer, ok, check}
@@ -11,7 +11,7 @@ use Rattle.boxes.specs.Box.{kind_of, body_of}
 use Rattle.boxes.specs.Exactly.{exactly}
 use Rattle.forms.specs.Form.{Form, give, demand, field, front, ◌>>=◌, ◌>>◌}
 use Rattle.forms.specs.Lead.{lead}
-use Rattle.contents.specs.Full.{Full, full, between, upto, id_bytes}
+use Rattle.contents.specs.Full.{full, between, upto, id_bytes}
 
 -- hidden is 1 or 0
 pub record Item : Type 0 where

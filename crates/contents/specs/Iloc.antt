@@ -5,7 +5,7 @@ use Rattle.std.specs.Prelude.{ℕ, ◌+◌, ◌/◌, ◌%◌, List, [], ◌∷�
 use Rattle.fields.specs.Choice.{pick}
 use Rattle.fields.specs.Lists.{member}
 use Rattle.forms.specs.Form.{Form, give, demand, field, many, ◌>>=◌, ◌>>◌}
-use Rattle.contents.specs.Full.{Full, full, upto}
+use Rattle.contents.specs.Full.{full, upto}
 
 -- the index is read from version 1 on; only method 2 uses it
 pub record Extent : Type 0 where

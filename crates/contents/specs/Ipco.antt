@@ -1,14 +1,14 @@
 -- `ipco`: the properties. "Every box in `ipco` takes an index from 1, free space too." A property is its box.
 --   GoodContent k s               the content s is as long as a property of type k must be
 --   property-step at before b   b as the next property, at `at`
-use Rattle.std.specs.Prelude.{ℕ, ◌≡◌, List, [], ◌∷◌, ◌++◌, Bool, ◌||◌, length, ltb, eqb}
+use Rattle.std.specs.Prelude.{ℕ, ◌≡◌, List, [], ◌∷◌, ◌++◌, ◌||◌, length, ltb, eqb}
 use Rattle.fields.specs.Choice.{pick}
 use Rattle.boxes.specs.Answer.{Answer, ok, check}
 use Rattle.boxes.specs.Answer as Ans
 use Rattle.boxes.specs.Types.{ispe, clap, irot, imir}
 use Rattle.boxes.specs.Box.{kind_of, body_of}
-use Rattle.forms.specs.Form.{Form, give, demand, field, whole, ◌>>=◌, ◌>>◌}
-use Rattle.contents.specs.Full.{Full, full, upto}
+use Rattle.forms.specs.Form.{Form, give, field, whole, ◌>>=◌}
+use Rattle.contents.specs.Full.{full, upto}
 
 -- "`ispe` version 0, 12 bytes": version, flags, width, height
 unfoldable pub ispe_form : Form (Unit {0})

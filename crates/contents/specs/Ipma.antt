@@ -5,7 +5,7 @@ use Rattle.std.specs.Prelude.{ℕ, ◌+◌, ◌%◌, List, [], ◌∷◌, Bool, 
 use Rattle.fields.specs.Choice.{pick}
 use Rattle.fields.specs.Lists.{member}
 use Rattle.forms.specs.Form.{Form, give, demand, field, many, ◌>>=◌, ◌>>◌}
-use Rattle.contents.specs.Full.{Full, full, upto, id_bytes}
+use Rattle.contents.specs.Full.{full, upto, id_bytes}
 
 pub record Association : Type 0 where
   pub essential : Bool

@@ -1,12 +1,12 @@
 -- `iprp`: "exactly `ipco` then one `ipma`, else 7 at `iprp` (after 3 at its level, before their contents)."
 --   IprpContent                     the properties and the associations
 --   iprp-content ids p at s          those of the `iprp` at p whose content s begins at `at`
-use Rattle.std.specs.Prelude.{ℕ, ◌+◌, List, [], ◌∷◌, ◌++◌, Bool, ◌&&◌, length, eqb}
+use Rattle.std.specs.Prelude.{ℕ, ◌+◌, List, [], ◌∷◌, ◌++◌, ◌&&◌, length, eqb}
 use Rattle.boxes.specs.Answer.{Answer, ok, refuse, check, ◌>>=◌, ◌>>◌}
 use Rattle.boxes.specs.Types.{ipco, ipma}
 use Rattle.boxes.specs.Box.{head_of, kind_of, body_of}
 use Rattle.boxes.specs.Children.{contain}
-use Rattle.forms.specs.Form.{Form, whole}
+use Rattle.forms.specs.Form.{whole}
 use Rattle.contents.specs.Ipco.{property_step}
 use Rattle.contents.specs.Ipma.{IpmaEntry, ipma_form}
 

@@ -2,7 +2,7 @@
 --   Reference                   an item and the items that it refers to, as item IDs
 --   IrefContent                 the derivations (`dimg`: what an item is derived from) and the links (`iloc`: what its bytes are made of)
 --   references ids p at s       those of the `iref` at p whose content s begins at `at`
-use Rattle.std.specs.Prelude.{ℕ, ◌+◌, List, [], ◌∷◌, ◌++◌, map, Bool, true, false, ◌&&◌, ◌||◌, not, length, leb, eqb}
+use Rattle.std.specs.Prelude.{ℕ, ◌+◌, List, [], ◌∷◌, ◌++◌, map, ◌&&◌, ◌||◌, not, length, leb, eqb}
 use Rattle.fields.specs.Choice.{pick}
 use Rattle.fields.specs.Lists.{member}
 use Rattle.boxes.specs.Answer.{Answer, ok}
@@ -12,7 +12,7 @@ use Rattle.boxes.specs.Box.{kind_of, body_of}
 use Rattle.boxes.specs.Children.{contain}
 use Rattle.forms.specs.Form.{Form, give, demand, field, many, whole, ◌>>=◌, ◌>>◌}
 use Rattle.forms.specs.Lead.{lead}
-use Rattle.contents.specs.Full.{Full, full, upto, id_bytes}
+use Rattle.contents.specs.Full.{full, upto, id_bytes}
 
 pub record Reference : Type 0 where
   pub id : ℕ

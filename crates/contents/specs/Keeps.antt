@@ -6,23 +6,22 @@
 --   Spelled bs f            the children bs of a `meta` spell the file f
 --   Keeps s f               the content s of a `meta` spells the file f
 --   FileIn total head f     a head of a file of `total` bytes spells the file f
-use Rattle.std.specs.Prelude.{ℕ, ◌≤◌, ◌<◌, ◌≡◌, List, [], ◌∷◌, ◌++◌, length, eqb}
-use Rattle.fields.specs.Choice.{pick}
+use Rattle.std.specs.Prelude.{ℕ, ◌≤◌, ◌<◌, ◌≡◌, List, [], ◌∷◌, ◌++◌, length}
 use Rattle.fields.specs.Lists.{All}
-use Rattle.boxes.specs.Types.{hdlr, pitm, iinf, iloc, iprp, iref, idat, infe, ipco, ipma, dimg}
+use Rattle.boxes.specs.Types.{hdlr, pitm, iinf, iloc, iprp, iref, idat, infe, ipco, ipma}
 use Rattle.boxes.specs.Box.{kind_of, body_of, IsBox, flat}
 use Rattle.boxes.specs.Children.{Contains, of_kind}
 use Rattle.boxes.specs.Exactly.{Exact}
 use Rattle.boxes.specs.Top.{FirstMeta}
-use Rattle.forms.specs.Form.{Form, Fronts}
+use Rattle.forms.specs.Form.{Fronts}
 use Rattle.forms.specs.Lead.{Leads}
-use Rattle.contents.specs.Full.{Full, full, upto, id_bytes}
+use Rattle.contents.specs.Full.{full, upto, id_bytes}
 use Rattle.contents.specs.Hdlr.{hdlr_form}
 use Rattle.contents.specs.Pitm.{pitm_form}
 use Rattle.contents.specs.Iinf.{Item, ids_of, infe_form, iinf-count}
-use Rattle.contents.specs.Iloc.{Location, iloc_form}
+use Rattle.contents.specs.Iloc.{iloc_form}
 use Rattle.contents.specs.Ipco.{GoodContent}
-use Rattle.contents.specs.Ipma.{IpmaEntry, ipma_form}
+use Rattle.contents.specs.Ipma.{ipma_form}
 use Rattle.contents.specs.Iprp.{IprpContent}
 use Rattle.contents.specs.Iref.{Reference, IrefContent, no_references, reference_form, kept_by}
 use Rattle.contents.specs.File.{File, data_of}

@@ -1,4 +1,6 @@
 // Contents: version and flags, and the two boxes that are one number each. What the larger boxes hold goes into the table and is read in crates of its own.
+#![tactic(auto)]
+
 ghost use Rattle.std.specs.Prelude.{◌≡◌};
 ghost use Rattle.forms.specs.Form.{Form, whole, front};
 ghost use Rattle.contents.specs.Full.{full, between};

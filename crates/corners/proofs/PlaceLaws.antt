@@ -4,7 +4,7 @@ use native.Mathlib.Omega.{arith}
 use mathlib.Core.Path.{◌≡◌, sym, ap, ◌∙◌}
 use borrow.Author.Tests.{lt-ltb, le-ltb}
 use Rattle.fields.proofs.FieldLaws.{pick_yes, pick_no}
-use Rattle.pictures.specs.Signed.{Signed, plus, minus, signed}
+use Rattle.pictures.specs.Signed.{plus, minus, signed}
 use Rattle.corners.specs.inner.Place.{raised}
 
 -- raised: the number v of so many bytes, half of 256 ^ bytes being known

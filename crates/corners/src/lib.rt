@@ -1,4 +1,6 @@
 // Where the inputs of a derived picture lie, and what is seen of them.
+#![tactic(auto)]
+
 ghost use Rattle.std.specs.Prelude.{◌≡◌, ◌+◌, ◌*◌, ◌-◌, ◌≤◌, ◌<◌, length};
 ghost use Rattle.fields.specs.Field.{be_at};
 ghost use Rattle.pictures.specs.Signed.{signed};
@@ -8,7 +10,7 @@ use layout::{Part, ZERO, least, less, whole};
 use pictures::Size;
 
 // Where the corner of an input lies on its canvas, each number with `ZERO` added to it.
-#[derive(Drop)]
+#[derive(Clone, Copy)]
 pub struct Corner {
     pub x: u64,
     pub y: u64,

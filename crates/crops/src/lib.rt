@@ -1,4 +1,6 @@
 // The working of an item's crops for the desk, step by step with the numbers: a line for each side of each crop. Document 02, Q-2.
+#![tactic(auto)]
+
 use io::print_decimal;
 use pictures::{Size, StepFound};
 use table::{ItemId, ItemRow};
@@ -9,7 +11,7 @@ const CLAP: u32 = 0x636c6170;
 const ISPE: u32 = 0x69737065;
 
 // One side of a picture and what a `clap` says of it: width, or height, n / d, offset o / od, o a 32-bit two's complement number.
-#[derive(Drop)]
+#[derive(Clone, Copy)]
 pub struct Cut {
     across: bool,
     side: u32,

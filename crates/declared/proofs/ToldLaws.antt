@@ -84,7 +84,8 @@ module _ {t head : List ℕ} {pl : Places} {f : File} (v : TableOf t head pl f) 
 
   -- one turn of the code, where this association is none of an unknown essential property: s₁, d₁ and o₁ are what is
   -- behind an `ispe` or none, o₂ what is behind a transform or none
-  module _ (known : essential_known f (drop j (associations_of f id)) ≡ essential_known f (drop (j + 1) (associations_of f id))) (s₁ : Bool) (d₁ o₁ o₂ : Size) where
+  module _ (known : essential_known f (drop j (associations_of f id)) ≡ essential_known f
+      (drop (j + 1) (associations_of f id))) (s₁ : Bool) (d₁ o₁ o₂ : Size) where
     pub told-other : (k ≡ ispe → ⊥) → s₁ ≡ s → d₁ ≡ d → o₁ ≡ o → transform k ≡ false → o₂ ≡ o₁ → told_from f id j s d o ≡ told_from f id (j + 1) s₁ d₁ o₂
     told-other n es ed eo q et = rw (et, eo, ed, es) (told-on f id j s d o s d o known
         (other-type (types_of f id) j in_types k e s n q) (sizes-skip v id j l k e s d o n q))

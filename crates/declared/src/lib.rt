@@ -1,4 +1,6 @@
 // Refusals 15, 29 and 16, and what an item's properties say of its size: the properties of an item, one after the other.
+#![tactic(auto)]
+
 ghost use Rattle.std.specs.Prelude.{◌≡◌, List, [], true, ℕ, ◌≤◌, ◌<◌, length, get_or};
 ghost use Rattle.fields.specs.Choice.{pick};
 ghost use Rattle.fields.specs.Field.{be_at};

@@ -20,22 +20,7 @@ use Rattle.boxes.specs.Top.{PlacedBox, FirstMeta}
 use Rattle.boxes.proofs.AnswerLaws.{ok_inj}
 use Rattle.boxes.proofs.BoxLaws.{head_least, box-size, flat_append}
 use Rattle.boxes.proofs.TopLaws.{meta-complete}
-use Rattle.demands.specs.Places.{
-  Begins,
-  Passed,
-  Opens,
-  iinf-zero,
-  iinf-one,
-  of_iprp,
-  of_ipco,
-  of_iref,
-  Content,
-  of_meta,
-  of_box,
-  BoxAt,
-  at_top,
-  inside,
-}
+use Rattle.demands.specs.Places.{Begins, Passed, Opens, iinf-zero, iinf-one, of_iprp, of_ipco, of_iref, Content, of_meta, of_box, BoxAt, at_top, inside}
 use Rattle.demands.proofs.PlaceLaws.{box-long, body-room, passed-all, branded-passed, meta-header}
 
 -- what two contents are that are one: the boxes at their fronts, and what follows

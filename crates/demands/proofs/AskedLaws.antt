@@ -1,26 +1,24 @@
 -- Refusals 21 to 28: what is asked of a good file is refused exactly where the documents say. Assumes nothing.
-use Prim.Native.Nat.{ℕ, ◌-◌, ◌≤◌, ◌<◌}
+use Prim.Native.Nat.{ℕ, ◌-◌, ◌<◌}
 use native.Mathlib.Omega.{arith}
-use mathlib.Core.Path.{◌≡◌, refl, sym, ap, subst, ◌∙◌}
-use mathlib.Core.List.{List}
+use mathlib.Core.Path.{◌≡◌, refl, sym, ap, ◌∙◌}
 use mathlib.Core.Bool.{Bool, true, false, not, ◌&&◌}
 use mathlib.Core.Logic.{◌⊎◌, inl, inr}
 use lib.ListN.{length}
 use lib.Dec.{leb, ltb}
-use borrow.Author.Tests.{leb-true, leb-false, ltb-true, lt-ltb, le-ltb, lt-leb, not-false}
+use borrow.Author.Tests.{leb-false, ltb-true, lt-ltb, lt-leb, not-false}
 use Rattle.fields.specs.Lists.{member}
 use Rattle.fields.proofs.TestLaws.{untrue, and_both, both-and, and_none}
 use Rattle.boxes.specs.Answer.{Answer, ok, refuse, check, ◌>>=◌, ◌>>◌}
-use Rattle.boxes.specs.Types.{image, clap}
+use Rattle.boxes.specs.Types.{image}
 use Rattle.boxes.proofs.AnswerLaws.{ok_bind, bind_ok, then_ok, ok-then, check-ok, ok-check, ok_inj, bind_assoc, bind_refuse}
-use Rattle.contents.specs.Iinf.{Item, ids_of}
+use Rattle.contents.specs.Iinf.{ids_of}
 use Rattle.contents.specs.File.{File}
 use Rattle.pictures.specs.declared.Size.{Size}
 use Rattle.pictures.specs.declared.Point.{Point}
 use Rattle.pictures.specs.Turn.{Inside}
-use Rattle.pictures.specs.Scene.{Picture, Scene, picture_at, output_of}
-use Rattle.pictures.specs.Sources.{sources}
-use Rattle.rules.specs.Joined.{associations_of, types_of, row_of, item_at}
+use Rattle.pictures.specs.Scene.{Scene, output_of}
+use Rattle.rules.specs.Joined.{associations_of, row_of, item_at}
 use Rattle.rules.specs.Places.{Places}
 use Rattle.rules.specs.Opening.{listed, pictured}
 use Rattle.questions.specs.Questions.{size_in, trace_in, sources_in, property_in}

@@ -13,12 +13,12 @@ use mathlib.Core.Bool.{Bool, true, false}
 use mathlib.Core.Logic.{◌⊎◌, inl, inr}
 use lib.ListN.{length, take, drop, replicate, length-replicate}
 use lib.Seq.{take-append-le}
-use lib.Dec.{leb, eqb}
-use borrow.Author.Tests.{le-leb, lt-leb, eqb-true}
+use lib.Dec.{eqb}
+use borrow.Author.Tests.{le-leb, eqb-true}
 use Rattle.fields.specs.Choice.{pick}
 use Rattle.fields.proofs.FieldLaws.{both, pick_yes, pick_no}
 use Rattle.fields.proofs.TestLaws.{untrue, or_either}
-use Rattle.boxes.specs.Answer.{Answer, ok, refuse, check, ◌>>=◌, ◌>>◌}
+use Rattle.boxes.specs.Answer.{Answer, ok, refuse, ◌>>=◌, ◌>>◌}
 use Rattle.boxes.specs.Types.{grid, iovl, iden, coded, derived}
 use Rattle.boxes.specs.declared.Refusal.{Refusal}
 use Rattle.boxes.proofs.AnswerLaws.{bind_ok, ok_bind, then_ok, check-ok, ok_inj}
@@ -30,7 +30,7 @@ use Rattle.rules.specs.Bodies.{ItsBody}
 use Rattle.rules.specs.Derivations.{recipe_for, tiles_of, layers_of}
 use Rattle.rules.specs.Rules.{rule13-30-14, rule17}
 use Rattle.rules.specs.Words.{table_words, words_of}
-use Rattle.rules.specs.Opening.{accepted, opened, after_by, after}
+use Rattle.rules.specs.Opening.{after}
 use Rattle.rules.proofs.RuleLaws.{Judged, judged-each}
 use Rattle.rules.proofs.DerivationLaws.{rule-17-ok}
 use Rattle.rules.proofs.ByteLaws.{body-joined, body-long}
@@ -38,7 +38,7 @@ use Rattle.views.proofs.LookupLaws.{row_listed}
 use Rattle.asked.proofs.PicturedLaws.{row_holds}
 use Rattle.bodied.specs.declared.Bodied.{Bodied}
 use Rattle.bodied.specs.declared.Bodied.TheVariants as bodied
-use Rattle.bodied.specs.Body.{longest_body, has_body, body_in, opened_for, body, buffer_after, room_left}
+use Rattle.bodied.specs.Body.{has_body, body_in, opened_for, body, buffer_after, room_left}
 use Rattle.bodied.specs.Told.{told_bodied}
 use Rattle.bodied.proofs.RoomLaws.{room-opened, table_opened, short-opened, room-left, left_table, left-cleared}
 use Rattle.out.specs.Out.{out_bodied}
@@ -49,19 +49,7 @@ use Rattle.faults.proofs.JudgedLaws.{good-judged}
 use Rattle.demands.specs.Call.{IsListed, IsPicture, SizeUnmet}
 use Rattle.demands.specs.Outcome.{Outcome}
 use Rattle.demands.specs.Outcome as Other
-use Rattle.demands.specs.Body.{
-  type_of,
-  GoodBody,
-  BodyCall,
-  no_table,
-  no_room,
-  as_others,
-  BodyOutcome,
-  answered,
-  refused,
-  BodyRefuses,
-  BodyDecided,
-}
+use Rattle.demands.specs.Body.{type_of, GoodBody, BodyCall, no_table, no_room, as_others, BodyOutcome, answered, refused, BodyRefuses, BodyDecided}
 use Rattle.demands.proofs.AskedLaws.{pictured-is, pictured-shown, pictured_or, picture_off}
 use Rattle.demands.proofs.ToldLaws.{body-told}
 use Rattle.demands.proofs.Demand1.{after_same}

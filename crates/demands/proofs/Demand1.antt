@@ -6,18 +6,16 @@
 use Prim.Native.Nat.{ℕ, ◌≤◌}
 use native.Mathlib.Omega.{arith}
 use mathlib.Core.Path.{◌≡◌, refl, sym, ap, ◌∙◌}
-use mathlib.Core.List.{List, [], ◌∷◌, ◌++◌}
+use mathlib.Core.List.{List, [], ◌∷◌}
 use mathlib.Core.Bool.{Bool, true, false}
-use mathlib.Core.Logic.{◌⊎◌, inl, inr}
 use lib.ListN.{length, take, drop, replicate, length-replicate}
 use lib.Seq.{take-append-le}
 use lib.Dec.{leb}
 use borrow.Author.Tests.{leb-true, leb-false, le-leb}
 use Rattle.fields.specs.Choice.{pick}
-use Rattle.fields.proofs.FieldLaws.{pick_yes, pick_no}
+use Rattle.fields.proofs.FieldLaws.{pick_yes}
 use Rattle.boxes.specs.declared.Refusal.{Refusal}
 use Rattle.boxes.specs.Answer.{Answer, ok, refuse, check, ◌>>=◌, ◌>>◌}
-use Rattle.boxes.proofs.AnswerLaws.{ok-then, ok-check}
 use Rattle.contents.specs.File.{File}
 use Rattle.pictures.specs.declared.Point.{Point}
 use Rattle.rules.specs.Derivations.{scene_of}
@@ -25,7 +23,7 @@ use Rattle.rules.specs.Places.{places_in}
 use Rattle.rules.specs.Words.{words_of}
 use Rattle.rules.proofs.RuleLaws.{accepted-both}
 use Rattle.rules.specs.Opening.{accepted, opened, left_by, after_by, after}
-use Rattle.questions.specs.Questions.{verdict_in, size_in, trace_in, sources_in, property_in, list_after}
+use Rattle.questions.specs.Questions.{verdict_in, trace_in, sources_in, property_in, list_after}
 use Rattle.questions.specs.Questions as Q
 use Rattle.records.proofs.BoundLaws.{read_bounds}
 use Rattle.views.proofs.LayoutLaws.{words-length}
@@ -44,22 +42,13 @@ use Rattle.facing.specs.declared.Oriented.{Oriented}
 use Rattle.facing.specs.declared.Oriented.TheVariants as oriented
 use Rattle.facing.specs.Orientation.{orientation}
 use Rattle.asked.specs.Told.{told_verdict, told_sized}
-use Rattle.traced.specs.Told.{told_found, told_traced}
+use Rattle.traced.specs.Told.{told_traced}
 use Rattle.seam.specs.Points.{points_in, points, single_trace, records_after, told_points_filled}
 use Rattle.seam.specs.Numbers.{numbers_after}
 use Rattle.sourced.specs.Told.{told_listed}
 use Rattle.facing.specs.Told.{told_oriented}
 use Rattle.still.specs.Told.{told_part, told_fault}
-use Rattle.still.specs.Given.{
-  VerdictGiven,
-  SizeGiven,
-  TraceGiven,
-  PointsGiven,
-  PointNumbersGiven,
-  SourcesGiven,
-  OrientationGiven,
-  PropertyGiven,
-}
+use Rattle.still.specs.Given.{VerdictGiven, SizeGiven, TraceGiven, PointsGiven, PointNumbersGiven, SourcesGiven, OrientationGiven, PropertyGiven}
 use Rattle.faults.specs.Good.{GoodFile}
 use Rattle.faults.proofs.GoodLaws.{accepted-good, refused-first}
 use Rattle.demands.specs.Call.{SizeUnmet, TraceUnmet, PointsUnmet, SourcesUnmet, PropertyUnmet, OrientationUnmet, Call, short, bad, unmet}

@@ -3,17 +3,15 @@
 -- Assumes nothing.
 use Prim.Native.Nat.{ℕ, ◌≤◌}
 use native.Mathlib.Omega.{arith}
-use mathlib.Core.Path.{◌≡◌, refl, sym, ap, ◌∙◌}
+use mathlib.Core.Path.{◌≡◌, refl, ap, ◌∙◌}
 use mathlib.Core.List.{List, ◌++◌}
 use mathlib.Core.Bool.{Bool, true, false}
 use lib.ListN.{length, drop}
 use lib.Dec.{leb}
 use borrow.Author.Tests.{leb-true, le-leb}
-use Rattle.fields.specs.Choice.{pick}
 use Rattle.fields.proofs.FieldLaws.{pick_yes}
 use Rattle.boxes.specs.Answer.{Answer, ok, refuse, check, ◌>>=◌, ◌>>◌}
 use Rattle.boxes.proofs.AnswerLaws.{ok-then, ok-check}
-use Rattle.contents.specs.Iinf.{Item}
 use Rattle.contents.specs.File.{File}
 use Rattle.pictures.specs.declared.Point.{Point}
 use Rattle.table.specs.declared.ItemId.{ItemId}
@@ -39,16 +37,7 @@ use Rattle.seam.specs.Numbers.{numbers_after}
 use Rattle.sourced.specs.Told.{told_listed}
 use Rattle.facing.specs.Told.{told_oriented}
 use Rattle.still.specs.Told.{told_part, told_fault}
-use Rattle.still.specs.Given.{
-  VerdictGiven,
-  SizeGiven,
-  TraceGiven,
-  PointsGiven,
-  PointNumbersGiven,
-  SourcesGiven,
-  OrientationGiven,
-  PropertyGiven,
-}
+use Rattle.still.specs.Given.{VerdictGiven, SizeGiven, TraceGiven, PointsGiven, PointNumbersGiven, SourcesGiven, OrientationGiven, PropertyGiven}
 use Rattle.faults.specs.Good.{GoodFile}
 use Rattle.faults.proofs.GoodLaws.{accepted-good, good-accepted}
 use Rattle.demands.proofs.Demand1.{points_of, trace_of}

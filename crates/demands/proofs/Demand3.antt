@@ -3,21 +3,17 @@
 -- that they name is missing, and `trace` tells that end and the number of these pictures, at most one more than the
 -- depth, so at most 17. Assumes nothing.
 use Prim.Native.Nat.{ℕ, ◌+◌, ◌≤◌}
-use native.Mathlib.Omega.{arith}
-use mathlib.Core.Path.{◌≡◌, refl, sym, ap, ◌∙◌}
-use mathlib.Core.List.{List, map}
-use mathlib.Core.Bool.{true}
-use mathlib.Core.Logic.{◌⊎◌, inl, inr}
+use mathlib.Core.Path.{◌≡◌, ap, ◌∙◌}
+use mathlib.Core.List.{List}
 use lib.ListN.{length, length-map}
 use borrow.Author.Tests.{lt-ltb}
 use Rattle.fields.proofs.TestLaws.{both-and}
-use Rattle.boxes.specs.Answer.{Answer, ok, ◌>>=◌, ◌>>◌}
+use Rattle.boxes.specs.Answer.{ok}
 use Rattle.boxes.proofs.AnswerLaws.{ok_bind, ok-then, ok-check}
 use Rattle.contents.specs.File.{File}
 use Rattle.pictures.specs.declared.Point.{Point}
 use Rattle.pictures.specs.Turn.{Inside}
-use Rattle.pictures.specs.Recipe.{Recipe, Opaque}
-use Rattle.pictures.specs.Scene.{Picture, Scene, picture_at, output_of}
+use Rattle.pictures.specs.Scene.{Scene, output_of}
 use Rattle.pictures.specs.Depth.{depth}
 use Rattle.pictures.specs.Trace.{End, Traced, Path, trace}
 use Rattle.pictures.proofs.PathLaws.{Ends, path_ends, one_path, Asked, has_path, trace-is}

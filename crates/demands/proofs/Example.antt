@@ -1,6 +1,5 @@
 -- There is such a file: document 01's own file keeps the rules, and the questions answer it by computation. Assumes nothing.
 use mathlib.Core.Path.{◌≡◌, refl}
-use mathlib.Core.List.{List}
 use mathlib.Core.Bool.{false}
 use Rattle.fields.specs.Choice as FieldsChoice
 use Rattle.fields.specs.Field as FieldsField

@@ -3,9 +3,6 @@ use Prim.Native.Nat.{ℕ}
 use mathlib.Core.Path.{◌≡◌}
 use mathlib.Core.List.{List}
 use lib.ListN.{length}
-use Rattle.boxes.specs.Answer.{Answer}
-use Rattle.contents.specs.File.{File}
-use Rattle.pictures.specs.declared.Point.{Point}
 use Rattle.pictures.specs.Turn.{point}
 use Rattle.rules.specs.Places.{places_in}
 use Rattle.rules.specs.Derivations.{scene_of}
@@ -18,15 +15,7 @@ use Rattle.out.specs.Out.{out_verdict, out_sized, out_traced, out_points, out_li
 use Rattle.still_c.specs.Given.{VerdictGiven, SizeGiven, TraceGiven, PointsGiven, SourcesGiven, PropertyGiven, OrientationGiven}
 use Rattle.demands.specs.Call.{SizeUnmet, TraceUnmet, PointsUnmet, SourcesUnmet, PropertyUnmet, OrientationUnmet}
 use Rattle.demands.specs.Outcome.{Decided}
-use Rattle.demands.proofs.OutcomeLaws.{
-  verdict_decides,
-  size_decides,
-  trace_decides,
-  points_decides,
-  sources_decides,
-  property_decides,
-  orientation_decides,
-}
+use Rattle.demands.proofs.OutcomeLaws.{verdict_decides, size_decides, trace_decides, points_decides, sources_decides, property_decides, orientation_decides}
 
 module _ (head : List ℕ) (total : ℕ) (table : List ℕ) where
   pub verdict_decided : (r : List ℕ) (left : List ℕ) → VerdictGiven head total table r left →

@@ -4,8 +4,7 @@ use Prim.Native.Nat.{ℕ, ◌≤◌}
 use mathlib.Core.Path.{◌≡◌}
 use mathlib.Core.List.{List}
 use lib.ListN.{length, take}
-use Rattle.boxes.specs.Answer.{Answer, ◌>>=◌}
-use Rattle.contents.specs.File.{File}
+use Rattle.boxes.specs.Answer.{◌>>=◌}
 use Rattle.rules.specs.Derivations.{scene_of}
 use Rattle.questions.specs.Questions.{sources_in, list_after}
 use Rattle.questions.specs.Questions as Q

@@ -1,27 +1,24 @@
 -- Q-3, of the reader's answers: an orientation that is told is the one number of 1 to 8 that fits the picture's own
 -- transforms, and no list is told for exactly the other numbers. Assumes nothing.
 use Prim.Native.Nat.{ℕ, ◌≤◌, ◌<◌}
-use mathlib.Core.Path.{◌≡◌, refl, sym, ap, subst, ◌∙◌}
+use mathlib.Core.Path.{◌≡◌, sym, ap, subst, ◌∙◌}
 use mathlib.Core.List.{List}
-use mathlib.Core.Bool.{true, false, not}
 use mathlib.Core.Logic.{◌⊎◌}
 use lib.ListN.{length}
 use borrow.Author.Tests.{not-true}
 use Rattle.fields.specs.Lists.{member}
 use Rattle.boxes.specs.declared.Refusal.{Refusal}
-use Rattle.boxes.specs.Answer.{ok, refuse}
+use Rattle.boxes.specs.Answer.{ok}
 use Rattle.boxes.specs.Types.{clap}
 use Rattle.boxes.proofs.AnswerLaws.{bind_ok, then_ok, check-ok, ok_inj}
 use Rattle.contents.specs.File.{File}
-use Rattle.pictures.specs.declared.Turn.{Turn}
-use Rattle.pictures.specs.Scene.{Picture, picture_at}
+use Rattle.pictures.specs.Scene.{picture_at}
 use Rattle.rules.specs.Joined.{boxes_of, types_of}
 use Rattle.rules.specs.Derivations.{scene_of}
 use Rattle.rules.specs.Opening.{pictured}
 use Rattle.faults.specs.Good.{GoodFile}
 use Rattle.facing.specs.declared.TransformList.{TransformList}
 use Rattle.facing.specs.declared.TransformList.TheVariants as transforms
-use Rattle.facing.specs.Facings.{number_of, chain_facing}
 use Rattle.facing.specs.Orientation.{Plain, orientation_in, transforms_in}
 use Rattle.facing.specs.Told.{told_transforms}
 use Rattle.facing.proofs.FitsLaws.{OneFits, one-fits}

@@ -9,21 +9,7 @@ use mathlib.Core.Bool.{Bool, true, false}
 use lib.ListN.{length, length-append}
 use lib.Dec.{leb}
 use Rattle.boxes.specs.Answer.{Answer, ok, refuse}
-use Rattle.forms.specs.Form.{
-  Form,
-  Got,
-  give,
-  demand_of,
-  demand,
-  field_by,
-  field,
-  onto,
-  many,
-  finish,
-  whole,
-  value_of,
-  front,
-}
+use Rattle.forms.specs.Form.{Form, Got, give, demand_of, demand, field_by, field, onto, many, finish, whole, value_of, front}
 use Rattle.forms.specs.Form as F
 use Rattle.forms.specs.Lead.{lead_by, lead}
 use Rattle.contents.specs.Full.{full}

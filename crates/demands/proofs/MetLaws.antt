@@ -11,17 +11,15 @@ use lib.ListN.{length, get_or, take, drop, length-append, length-map, get_or-eq_
 use lib.Seq.{length-take-le, split_at, get_or_at}
 use lib.Dec.{eqb}
 use borrow.Author.Tests.{eqb-true, eqb-false, eq-eqb, ne_eqb}
-use Rattle.fields.specs.Choice.{pick}
 use Rattle.fields.specs.Lists.{All}
 use Rattle.fields.proofs.FieldLaws.{pick_yes, pick_no}
 use Rattle.fields.proofs.TestLaws.{and_both}
 use Rattle.fields.proofs.ListLaws.{all_more, all_both}
 use Rattle.boxes.specs.Answer.{ok}
 use Rattle.boxes.specs.Types.{ispe, known_property, image}
-use Rattle.boxes.specs.Box.{kind_of, body_of, IsBox}
+use Rattle.boxes.specs.Box.{kind_of, IsBox}
 use Rattle.boxes.proofs.AnswerLaws.{then_ok, check-ok}
 use Rattle.contents.specs.Iinf.{Item}
-use Rattle.contents.specs.Ipco.{GoodContent}
 use Rattle.contents.specs.Ipma.{Association}
 use Rattle.contents.specs.File.{File}
 use Rattle.contents.proofs.PropertyLaws.{Good}
@@ -30,10 +28,10 @@ use Rattle.pictures.specs.declared.Size.{Size}
 use Rattle.pictures.specs.declared.Point.{Point}
 use Rattle.pictures.specs.Turn.{size, Inside}
 use Rattle.pictures.specs.Decode.{ispe_of, turns_of}
-use Rattle.pictures.specs.Recipe.{Recipe, Coded, Copy, Opaque, Tiles, Layers, Grid, Overlay}
+use Rattle.pictures.specs.Recipe.{Recipe, Coded, Copy, Opaque, Tiles, Layers}
 use Rattle.pictures.specs.Scene.{Picture, Scene, picture_at, first_input, covered, all_size, made_up}
 use Rattle.pictures.specs.Trace.{End, undo_turns, Reached, Path, at-pixel, at_fill, through}
-use Rattle.pictures.specs.inner.GoodScene.{Shaped, GoodPicture}
+use Rattle.pictures.specs.inner.GoodScene.{Shaped}
 use Rattle.pictures.proofs.SceneLaws.{same_size_lem, is-made_up}
 use Rattle.pictures.proofs.SourceLaws.{tile_in_lem}
 use Rattle.pictures.proofs.PathLaws.{good-picture}
@@ -46,25 +44,11 @@ use Rattle.rules.proofs.SceneLaws.{judged-good, opaque-at, declared-at, turns_at
 use Rattle.views.specs.inner.View.{Sound}
 use Rattle.views.proofs.SoundLaws.{read_makes_sure}
 use Rattle.views.proofs.TableLaws.{property-none, property-some, no_kind}
-use Rattle.faults.specs.Fault.{Any, unknown, n15, Fault}
+use Rattle.faults.specs.Fault.{Any, unknown, n15}
 use Rattle.faults.specs.Good.{GoodFile}
 use Rattle.faults.proofs.JudgedLaws.{good-judged}
 use Rattle.demands.specs.Call.{IsListed, IsPicture}
-use Rattle.demands.specs.Met.{
-  Stands,
-  HasIndex,
-  There,
-  names-nothing,
-  names-box,
-  NoIspe,
-  OneIspe,
-  Met,
-  HasInput,
-  Stop,
-  stops_of,
-  MetAt,
-  MeetsOnly,
-}
+use Rattle.demands.specs.Met.{Stands, HasIndex, There, names-nothing, names-box, NoIspe, OneIspe, Met, HasInput, stops_of, MetAt, MeetsOnly}
 
 module _ {A : Type 0} where
   -- Stands: what a lookup finds below the length, and nothing else

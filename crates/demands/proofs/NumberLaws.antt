@@ -24,16 +24,7 @@ use Rattle.boxes.specs.Exactly.{ended, one_by, exactly}
 use Rattle.boxes.proofs.BoxLaws.{cut-is, head_least, starts-room, front-box}
 use Rattle.demands.specs.Numbers.{Among, reading_numbers}
 use Rattle.demands.specs.Places.{zero_placed, box_placed, BoxAt}
-use Rattle.demands.proofs.PlaceLaws.{
-  box-long,
-  Each,
-  each_first,
-  each-behind,
-  each-joined,
-  each-rest,
-  each_next,
-  box-room,
-}
+use Rattle.demands.proofs.PlaceLaws.{box-long, Each, each_first, each-behind, each-joined, each-rest, each_next, box-room}
 
 pub record Only {A : Type 0} (P : ℕ → ℕ → Type 0) (m : Answer A) : Type 0 where
   pub by : (n p : ℕ) → m ≡ refuse n p → P n p

@@ -19,11 +19,11 @@ use Rattle.rules.specs.Rules.{judged}
 use Rattle.rules.specs.Opening as Opening
 use Rattle.rules.proofs.ByteLaws.{Given, bytes_given}
 use Rattle.questions.specs.Questions as Q
-use Rattle.faults.specs.Fault.{Rule, Number, n12, n13, n30, n14, n15, n29, n16, n17, n18, n19, n20, rule_of}
+use Rattle.faults.specs.Fault.{Number, n12, n13, n30, n14, n15, n29, n16, n17, n18, n19, n20, rule_of}
 use Rattle.faults.proofs.JudgedLaws.{judged-first}
 use Rattle.seam.specs.Points.{points_in, points}
 use Rattle.bodied.specs.Body.{body_in, opened_for, body}
-use Rattle.facing.specs.Orientation.{Transform, orientation_in, orientation, transforms_in}
+use Rattle.facing.specs.Orientation.{orientation_in, orientation, transforms_in}
 use Rattle.demands.specs.Numbers.{
   Among,
   reading_numbers,

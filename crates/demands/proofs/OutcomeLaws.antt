@@ -1,18 +1,16 @@
 -- Demand 1, the alternative and its other way, for any way of telling an answer. Assumes nothing.
-use Prim.Native.Nat.{ℕ, ◌≤◌, ◌<◌}
+use Prim.Native.Nat.{ℕ}
 use native.Mathlib.Omega.{arith}
 use mathlib.Core.Path.{◌≡◌, refl, sym, ap, ◌∙◌}
-use mathlib.Core.List.{List, ◌++◌}
-use mathlib.Core.Bool.{true, false}
-use lib.ListN.{length, drop, replicate}
-use lib.Dec.{leb}
+use mathlib.Core.List.{List}
+use lib.ListN.{length}
 use borrow.Author.Tests.{leb-true, le-leb, lt-leb}
 use Rattle.fields.proofs.FieldLaws.{pick_yes, pick_no}
 use Rattle.boxes.specs.Answer.{Answer, ok, refuse, check, ◌>>=◌, ◌>>◌}
 use Rattle.boxes.proofs.AnswerLaws.{bind_ok, then_ok, check-ok}
 use Rattle.contents.specs.File.{File}
 use Rattle.rules.specs.Words.{table_words, words_of}
-use Rattle.rules.specs.Opening.{accepted, opened, left_by, after_by, after}
+use Rattle.rules.specs.Opening.{opened, left_by, after_by, after}
 use Rattle.faults.specs.Good.{GoodFile}
 use Rattle.faults.proofs.GoodLaws.{accepted-good, first-refused, good-accepted}
 use Rattle.pictures.specs.declared.Point.{Point}
@@ -22,18 +20,7 @@ use Rattle.questions.specs.Questions.{verdict_in, size_in, trace_in, sources_in,
 use Rattle.questions.specs.Questions as Q
 use Rattle.seam.specs.Points.{points_in, points}
 use Rattle.facing.specs.Orientation.{orientation_in, orientation}
-use Rattle.demands.specs.Call.{
-  SizeUnmet,
-  TraceUnmet,
-  PointsUnmet,
-  SourcesUnmet,
-  PropertyUnmet,
-  OrientationUnmet,
-  Call,
-  short,
-  bad,
-  unmet,
-}
+use Rattle.demands.specs.Call.{SizeUnmet, TraceUnmet, PointsUnmet, SourcesUnmet, PropertyUnmet, OrientationUnmet, short, bad, unmet}
 use Rattle.demands.specs.Outcome.{Outcome, answered, refused, Refuses, Decided}
 use Rattle.demands.proofs.AskedLaws.{
   size-unmet,

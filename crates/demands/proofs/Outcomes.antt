@@ -4,8 +4,6 @@ use Prim.Native.Nat.{ℕ}
 use mathlib.Core.Path.{◌≡◌}
 use mathlib.Core.List.{List}
 use lib.ListN.{length}
-use Rattle.boxes.specs.Answer.{Answer}
-use Rattle.contents.specs.File.{File}
 use Rattle.pictures.specs.declared.Point.{Point}
 use Rattle.rules.specs.Places.{places_in}
 use Rattle.rules.specs.Derivations.{scene_of}
@@ -26,27 +24,10 @@ use Rattle.sourced.specs.Told.{told_listed}
 use Rattle.facing.specs.declared.Oriented.{Oriented}
 use Rattle.facing.specs.Told.{told_oriented}
 use Rattle.still.specs.Told.{told_part, told_fault}
-use Rattle.still.specs.Given.{
-  VerdictGiven,
-  SizeGiven,
-  TraceGiven,
-  PointsGiven,
-  PointNumbersGiven,
-  SourcesGiven,
-  OrientationGiven,
-  PropertyGiven,
-}
+use Rattle.still.specs.Given.{VerdictGiven, SizeGiven, TraceGiven, PointsGiven, PointNumbersGiven, SourcesGiven, OrientationGiven, PropertyGiven}
 use Rattle.demands.specs.Call.{SizeUnmet, TraceUnmet, PointsUnmet, SourcesUnmet, PropertyUnmet, OrientationUnmet}
 use Rattle.demands.specs.Outcome.{Decided}
-use Rattle.demands.proofs.OutcomeLaws.{
-  verdict_decides,
-  size_decides,
-  trace_decides,
-  points_decides,
-  sources_decides,
-  property_decides,
-  orientation_decides,
-}
+use Rattle.demands.proofs.OutcomeLaws.{verdict_decides, size_decides, trace_decides, points_decides, sources_decides, property_decides, orientation_decides}
 
 module _ (head : List ℕ) (total : ℕ) (table : List ℕ) where
   pub verdict_decided : (r : FileVerdict) (left : List ℕ) → VerdictGiven head total table r left →
@@ -58,7 +39,8 @@ module _ (head : List ℕ) (total : ℕ) (table : List ℕ) where
   size_decided id r left g = size_decides head total table left g.1 r told_sized id g.0
 
   pub trace_decided : (id : ℕ) (q : Point) (r : Traced) (left : List ℕ) → TraceGiven head total table id q r left →
-      Decided head total table (λ f. trace_in (scene_of total head f) f id q) told_traced (λ f n p. TraceUnmet (scene_of total head f) f id q n × (p ≡ id)) r left
+      Decided head total table (λ f. trace_in (scene_of total head f) f id q) told_traced
+      (λ f n p. TraceUnmet (scene_of total head f) f id q n × (p ≡ id)) r left
   trace_decided id q r left g = trace_decides head total table left g.1 r told_traced id q g.0
 
   pub orientation_decided : (id : ℕ) (r : Oriented) (left : List ℕ) → OrientationGiven head total table id r left →

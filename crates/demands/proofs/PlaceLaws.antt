@@ -27,19 +27,7 @@ use Rattle.contents.specs.Full.{Full, full, upto, id_bytes}
 use Rattle.contents.specs.Iinf.{iinf-count}
 use Rattle.contents.specs.Iprp.{Pair, pair_of}
 use Rattle.contents.proofs.FullLaws.{full_out}
-use Rattle.demands.specs.Places.{
-  Begins,
-  Passed,
-  Opens,
-  iinf-zero,
-  iinf-one,
-  Content,
-  of_meta,
-  of_box,
-  BoxAt,
-  at_top,
-  inside,
-}
+use Rattle.demands.specs.Places.{Begins, Passed, Opens, iinf-zero, iinf-one, Content, of_meta, of_box, BoxAt, at_top, inside}
 
 -- a box and its content
 pub box-long : (b : List ℕ) → IsBox b → 8 ≤ length b

@@ -6,7 +6,6 @@
 use Rattle.std.specs.Prelude.{ℕ, ◌≤◌, ◌<◌, ◌≡◌, List, [], ◌++◌, true, ◌⊎◌, length, replicate, drop}
 use Rattle.boxes.specs.Answer.{Answer, ok, refuse}
 use Rattle.boxes.specs.Types.{grid, iovl, iden, coded}
-use Rattle.contents.specs.Iinf.{Item}
 use Rattle.contents.specs.File.{File}
 use Rattle.rules.specs.Joined.{row_of, item_at}
 use Rattle.rules.specs.Bodies.{ItsBody}

@@ -9,7 +9,7 @@
 use Rattle.std.specs.Prelude.{ℕ, ◌≤◌, ◌<◌, ◌≡◌, List, ◌++◌, true, false, ◌⊎◌, length, replicate, drop}
 use Rattle.fields.specs.Lists.{member}
 use Rattle.boxes.specs.Types.{image, clap}
-use Rattle.contents.specs.Iinf.{Item, ids_of}
+use Rattle.contents.specs.Iinf.{ids_of}
 use Rattle.contents.specs.File.{File}
 use Rattle.pictures.specs.declared.Point.{Point}
 use Rattle.pictures.specs.Turn.{Inside}

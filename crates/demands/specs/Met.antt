@@ -20,15 +20,13 @@ use Rattle.std.specs.Prelude.{ℕ, ◌+◌, ◌*◌, ◌-◌, ◌/◌, ◌≤◌
 use Rattle.fields.specs.Lists.{All}
 use Rattle.boxes.specs.Types.{ispe, image}
 use Rattle.boxes.specs.Box.{kind_of, body_of, IsBox}
-use Rattle.forms.specs.Form.{Form}
 use Rattle.contents.specs.Iinf.{Item}
 use Rattle.contents.specs.Ipco.{ispe_form, GoodContent}
 use Rattle.contents.specs.Ipma.{Association}
 use Rattle.contents.specs.File.{File}
-use Rattle.pictures.specs.declared.Size.{Size}
 use Rattle.pictures.specs.declared.Point.{Point}
 use Rattle.pictures.specs.Decode.{ispe_of, turns_of}
-use Rattle.pictures.specs.Recipe.{Recipe, Coded, Copy, Opaque, Tiles, Layers, Grid, Overlay}
+use Rattle.pictures.specs.Recipe.{Recipe, Coded, Copy, Opaque, Tiles, Layers}
 use Rattle.pictures.specs.Scene.{Picture, Scene, picture_at, first_input}
 use Rattle.pictures.specs.Trace.{End, undo_turns, Path, at-pixel, at_fill, through}
 use Rattle.rules.specs.Joined.{associations_of, targets_of, boxes_of, row_of}

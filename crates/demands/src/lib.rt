@@ -1,1 +1,2 @@
 // Demands: no code. The three demands over what the questions of `still` promise (specs/, proofs/).
+#![tactic(auto)]

@@ -152,7 +152,8 @@ module _ (total : ℕ) (head : List ℕ) (f : File) (item : Item) (n : ℕ) (cou
 
   pub layers_wrong : OverlayIs (its_body total head f item) n layers.Wrong → made.Wrong ≡ told_derivation (layers_of total head f item)
   layers_wrong e =
-      sym (layers_read ∙ read-refused lay its_overlay (overlay-refused _ _ (subst (λ (k : ℕ). OverlayIs (its_body total head f item) k layers.Wrong) counted e)))
+      sym (layers_read ∙ read-refused lay its_overlay (overlay-refused _ _
+      (subst (λ (k : ℕ). OverlayIs (its_body total head f item) k layers.Wrong) counted e)))
 
   pub layers_is : (w h k : ℕ) → OverlayIs (its_body total head f item) n (layers.Is w h k) → (n ≡ 0 → ⊥) →
       made.Layers w h ≡ told_derivation (layers_of total head f item)

@@ -15,7 +15,6 @@ use Rattle.forms.specs.Form.{whole}
 use Rattle.pictures.specs.Recipe.{field_bytes, grid_form, iovl_form}
 use Rattle.pictures.specs.inner.Told.{told_grid, told_overlay}
 use Rattle.pictures.specs.declared.GridRead.{GridRead}
-use Rattle.pictures.specs.declared.GridRead.TheVariants as tiles
 use Rattle.pictures.specs.declared.OverlayRead.{OverlayRead}
 use Rattle.pictures.proofs.RefusedLaws.{Refused}
 use Rattle.pictures.proofs.GridLaws.{grid-length, grid_wrong}

@@ -1,4 +1,6 @@
 // Refusal 17: the inputs of a derived item, each target's row found once, and its body.
+#![tactic(auto)]
+
 ghost use Rattle.std.specs.Prelude.{◌≡◌, List, ℕ, ◌≤◌, ◌<◌, length, get_or, true, false};
 ghost use Rattle.boxes.specs.Answer.{ok};
 ghost use Rattle.forms.specs.Form.{whole};

@@ -1,5 +1,7 @@
 // SHA-256 of a table's words, for the programs of the tests: it lets a table be compared with one that somebody else wrote.
 // Nothing that is promised to users rests on it, so it promises no more than that it ends.
+#![tactic(auto)]
+
 ghost use Rattle.std.specs.Prelude.{◌≡◌, ◌<◌, length};
 
 fn add(a: u32, b: u32) -> u32 {

@@ -1,5 +1,7 @@
 // The drawing program: a still on standard input, the ID of an item in the arguments or none for the primary item, then a seam's four
 // numbers or none, an SVG picture as the answer.
+#![tactic(auto)]
+
 ghost use Rattle.std.specs.Prelude.{◌≡◌, ◌≤◌, length};
 
 use arguments::Number;
@@ -7,16 +9,17 @@ use asked::{FileVerdict, Sized};
 use between::Seam;
 use input::Input;
 use records::FoundRow;
+use std::env::Env;
 use table::{ItemId, ItemRow};
 
-#[derive(Drop)]
+#[derive(Clone, Copy)]
 enum Asked {
     Primary,
     Item(ItemId),
     Unclear,
 }
 
-#[derive(Drop)]
+#[derive(Clone, Copy)]
 enum Line {
     None,
     Is(Seam),
@@ -24,65 +27,65 @@ enum Line {
 }
 
 // What is drawn, and the seam over it.
-#[derive(Drop)]
+#[derive(Clone, Copy)]
 struct Request {
     asked: Asked,
     line: Line,
 }
 
 // The number that argument i spells.
-fn number_at(i: usize) -> Number {
+fn number_at(rt: &impl Env, i: usize) -> Number {
     let mut text = [0u8; 16];
-    let n = os::arg(i, &mut text);
+    let n = input::argument(rt, i, &mut text);
     arguments::number_of(&text[..n])
 }
 
 // The item that an argument names.
-fn read_item(at: usize) -> Asked {
-    let Number::Is(id) = number_at(at) else {
+fn read_item(rt: &impl Env, at: usize) -> Asked {
+    let Number::Is(id) = number_at(rt, at) else {
         return Asked::Unclear;
     };
     Asked::Item(ItemId(id))
 }
 
 // The seam that four arguments name.
-fn read_seam(at: usize) -> Line {
+fn read_seam(rt: &impl Env, at: usize) -> Line {
     if 8 < at {
         return Line::Unclear;
     }
-    let Number::Is(x) = number_at(at) else {
+    let Number::Is(x) = number_at(rt, at) else {
         return Line::Unclear;
     };
-    let Number::Is(y) = number_at(at + 1) else {
+    let Number::Is(y) = number_at(rt, at + 1) else {
         return Line::Unclear;
     };
-    let Number::Is(to_x) = number_at(at + 2) else {
+    let Number::Is(to_x) = number_at(rt, at + 2) else {
         return Line::Unclear;
     };
-    let Number::Is(to_y) = number_at(at + 3) else {
+    let Number::Is(to_y) = number_at(rt, at + 3) else {
         return Line::Unclear;
     };
     Line::Is(Seam { x, y, to_x, to_y })
 }
 
 // The program's own name comes first; then an item or none, then a seam or none.
-fn read_request() -> Request {
-    match os::arg_count() {
+fn read_request(rt: &impl Env) -> Request {
+    match input::argument_count(rt) {
         1 => Request {
             asked: Asked::Primary,
             line: Line::None,
         },
         2 => Request {
-            asked: read_item(1),
+            asked: read_item(rt, 1),
             line: Line::None,
         },
         5 => Request {
             asked: Asked::Primary,
-            line: read_seam(1),
+            line: read_seam(rt, 1),
         },
         6 => Request {
-            asked: read_item(1),
-            line: read_seam(2),
+            asked: read_item(rt, 1),
+            line: read_seam(rt, 2),
         },
         _ => Request {
             asked: Asked::Unclear,
@@ -176,9 +179,9 @@ fn print_use() {
     );
 }
 
-fn draw(r: Request) {
+fn draw(rt: &HostRuntime, r: Request) {
     let mut head = io::large_buffer();
-    let got = input::read_input(&mut head);
+    let got = input::read_input(rt, &mut head);
     match got {
         Input::Failed => input::print_failed(),
         Input::Is { here, total } => draw_file(&head[..here], total, r),
@@ -197,10 +200,10 @@ fn is_clear(r: Request) -> bool {
     true
 }
 
-fn main() {
-    let r = read_request();
+fn main(rt: HostRuntime) {
+    let r = read_request(&rt);
     if is_clear(r) {
-        return draw(r);
+        return draw(&rt, r);
     }
     print_use();
 }

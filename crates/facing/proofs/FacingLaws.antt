@@ -6,7 +6,7 @@ use Prim.Native.Nat.{ℕ, ◌-◌, ◌<◌}
 use native.Mathlib.Omega.{arith}
 use mathlib.Core.Path.{◌≡◌, refl, sym, ap, subst, ◌∙◌}
 use mathlib.Core.List.{List, [], ◌∷◌}
-use mathlib.Core.Bool.{Bool, true, false, not}
+use mathlib.Core.Bool.{Bool, true, false}
 use lib.Dec.{eqb}
 use Rattle.pictures.specs.declared.Size.{Size}
 use Rattle.pictures.specs.declared.Point.{Point}
@@ -42,6 +42,8 @@ turn_back Half c s p = refl
 turn_back Right c s p = refl
 turn_back FlipX c s p = refl
 turn_back FlipY c s p = refl
+turn_back (Crop _ _ _ _) c s p = elim c [ ]
+turn_back Misfit c s p = elim c [ ]
 
 turn_size : (t : Turn) → Uncut t → (s : Size) → size_after t s ≡ faced_size (turn_facing t) s
 unfolding size_after turn_facing
@@ -51,6 +53,8 @@ turn_size Half c s = refl
 turn_size Right c s = refl
 turn_size FlipX c s = refl
 turn_size FlipY c s = refl
+turn_size (Crop _ _ _ _) c s = elim c [ ]
+turn_size Misfit c s = elim c [ ]
 
 -- joined_facing: two facings do what the joined one does
 twice : (a b : Bool) (n u : ℕ) → u < n → mirrored a n (mirrored b n u) ≡ mirrored (flipped a b) n u

@@ -15,7 +15,6 @@ use Rattle.fields.specs.Field.{be_at}
 use Rattle.fields.proofs.ListLaws.{map_at}
 use Rattle.boxes.specs.Box.{head_of}
 use Rattle.pictures.specs.declared.Size.{Size}
-use Rattle.pictures.specs.declared.Point.{Point}
 use Rattle.pictures.specs.declared.Turn.{Turn}
 use Rattle.pictures.specs.declared.Turn.TheVariants.{Stay, Left, Half, Right, FlipX, FlipY, Crop, Misfit}
 use Rattle.pictures.specs.Turn.{size, Inside, size_after, size_through}
@@ -43,6 +42,7 @@ run k zero = []
 run k (suc n) = k ∷ run (suc k) n
 
 run_at : (k n i : ℕ) → i < n → get_or (run k n) i 0 ≡ k + i
+run_at k zero i l = elim l [ ]
 run_at k (suc n) zero l = omega arith
 run_at k (suc n) (suc i) l = run_at (suc k) n i (omega arith) ∙ omega arith
 

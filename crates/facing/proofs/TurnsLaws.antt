@@ -1,7 +1,7 @@
 -- Boxes among which no `clap` is: their transforms cut nothing, and are the same for every size of the picture. Assumes nothing.
 --   Clear bs    no `clap` is among the boxes bs
 use Prim.Native.Nat.{ℕ, ◌%◌}
-use mathlib.Core.Path.{◌≡◌, refl, sym, ap, ◌∙◌}
+use mathlib.Core.Path.{◌≡◌, refl, sym, ◌∙◌}
 use mathlib.Core.List.{List, [], ◌∷◌, map}
 use mathlib.Core.Bool.{Bool, true, false, ◌||◌}
 use lib.Dec.{eqb}

@@ -5,7 +5,7 @@
 --   Plain ts              none of the transforms ts cuts
 --   Fits n ts             over all W and H, the orientation n makes the same picture of the same pixels as ts
 --   orientation_in, transforms_in     the two questions;   orientation    the first as it is called
-use Rattle.std.specs.Prelude.{ℕ, ◌≡◌, List, [], ◌∷◌, map, Bool, not, ◌&&◌, get_or, leb}
+use Rattle.std.specs.Prelude.{ℕ, ◌≡◌, List, [], ◌∷◌, map, not, ◌&&◌, get_or, leb}
 use Rattle.fields.specs.Lists.{member}
 use Rattle.boxes.specs.Answer.{Answer, ok, check, ◌>>=◌, ◌>>◌}
 use Rattle.boxes.specs.Types.{clap}
@@ -16,7 +16,7 @@ use Rattle.pictures.specs.declared.Turn.{Turn}
 use Rattle.pictures.specs.declared.Turn.TheVariants.{Stay, Left, Half, Right, FlipX, FlipY, Crop, Misfit}
 use Rattle.pictures.specs.Turn.{size, Inside, size_through, undone}
 use Rattle.pictures.specs.Decode.{turns_of}
-use Rattle.pictures.specs.Scene.{Picture, Scene, picture_at}
+use Rattle.pictures.specs.Scene.{Scene, picture_at}
 use Rattle.rules.specs.Joined.{types_of}
 use Rattle.rules.specs.Opening.{opened, pictured}
 use Rattle.rules.specs.Derivations.{scene_of}

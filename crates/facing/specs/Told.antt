@@ -2,7 +2,7 @@
 --   told_faced f s id       the orientation of the item's transforms, or that one of them is a `clap`
 --   told_oriented           the code's value for an answer
 --   told_transforms         the transforms of an orientation, or the refusal
-use Rattle.std.specs.Prelude.{ℕ, List, [], ◌∷◌, Bool}
+use Rattle.std.specs.Prelude.{ℕ, List, [], ◌∷◌}
 use Rattle.fields.specs.Choice.{pick}
 use Rattle.fields.specs.Lists.{member}
 use Rattle.boxes.specs.Answer.{Answer, ok, refuse}

@@ -1,4 +1,6 @@
 // Orientations: the number of 1 to 8 that says what an item's `irot` and `imir` do together, and the transforms that say a number.
+#![tactic(auto)]
+
 ghost use Rattle.std.specs.Prelude.{◌≡◌, List, ℕ, ◌<◌, length};
 ghost use Rattle.contents.specs.File.{File};
 ghost use Rattle.pictures.specs.declared.Size as Sizes;
@@ -119,7 +121,7 @@ pub fn orientation_of(head: &[u8], table: &[u32], row: ItemRow) -> Faced
 }
 
 // A transform by the value that its box holds.
-#[derive(Drop)]
+#[derive(Clone, Copy)]
 pub enum Transform {
     Irot(u32),
     Imir(u32),

@@ -5,7 +5,7 @@ use Prim.Native.Nat.{ℕ, ◌*◌, ◌<◌}
 use native.Mathlib.Omega.{arith}
 use mathlib.Core.Path.{◌≡◌, refl, sym, ap, ◌∙◌}
 use mathlib.Core.List.{List, [], ◌∷◌}
-use mathlib.Core.Bool.{Bool, true, false, ◌&&◌, ◌||◌}
+use mathlib.Core.Bool.{Bool, true, false, ◌||◌}
 use mathlib.Core.Logic.{◌⊎◌, inl, inr}
 use lib.ListN.{length}
 use lib.Dec.{eqb}
@@ -13,23 +13,22 @@ use borrow.Author.Tests.{ltb-true, lt-ltb, eqb-true, eq-eqb}
 use Rattle.fields.specs.Choice.{pick}
 use Rattle.fields.proofs.TestLaws.{untrue, or_either}
 use Rattle.boxes.specs.Answer.{Answer, ok, refuse, check, ◌>>=◌, ◌>>◌}
-use Rattle.boxes.specs.Types.{iden, grid, iovl, derived, image, coded}
+use Rattle.boxes.specs.Types.{iden, grid, iovl, derived, image}
 use Rattle.boxes.proofs.AnswerLaws.{bind_ok, ok_bind, then_ok, ok-then, check-ok, ok-check}
-use Rattle.forms.specs.Form.{Form, whole}
 use Rattle.forms.proofs.WholeLaws.{whole-sound, whole-complete}
 use Rattle.contents.specs.Iinf.{Item}
 use Rattle.contents.specs.Iloc.{Location}
 use Rattle.contents.specs.File.{File}
-use Rattle.pictures.specs.Recipe.{Recipe, Coded, Opaque, Tiles, Layers, Grid, Overlay, grid_form, iovl_form}
+use Rattle.pictures.specs.Recipe.{Recipe, Tiles, Layers, Grid, Overlay, grid_form, iovl_form}
 use Rattle.rules.specs.Joined.{location_of, targets_of, row_of, item_at}
 use Rattle.rules.specs.Bytes.{chained}
 use Rattle.rules.specs.Bodies.{ItsBody}
-use Rattle.rules.specs.Derivations.{nothing_in, all_images, its_body, copy_of, tiles_of, layers_of, recipe_for, as_rule17, recipe_of}
+use Rattle.rules.specs.Derivations.{nothing_in, all_images, its_body, copy_of, tiles_of, layers_of, recipe_for, as_rule17}
 use Rattle.rules.specs.Rules.{rule17}
 use Rattle.rules.proofs.DerivationLaws.{rule-17-ok}
 use Rattle.rules.proofs.ByteLaws.{body-joined}
 use Rattle.faults.specs.Fault.{Any, Not, WrongDerivation, not-derived, no_picture, copy-inputs, copy-extents, no_tiles, no_layers}
-use Rattle.faults.proofs.TellsLaws.{Tells, tells_as, tells_and, tells_itself, tells_equal, tells_each}
+use Rattle.faults.proofs.TellsLaws.{Tells, tells_and, tells_itself, tells_equal, tells_each}
 
 pub record Denies {A : Type 0} (m : Answer A) (W : Type 0) : Type 0 where
   pub there : (n p : ℕ) → m ≡ refuse n p → W
@@ -170,6 +169,8 @@ module _ (total : ℕ) (head : List ℕ) (f : File) (item : Item) (good : chaine
   to : Joined → Wrong
   to (inr (d, inl n)) = not-derived d n
   to (inl (d, inl a)) = no_picture d a
+  to (inl (d, inr (inl (i, inr x)))) = elim x [ ]
+  to (inr (d, inr x)) = elim x [ ]
   to (inl (d, inr (inl (i, inl (inl n))))) = copy-inputs (eqb-true _ _ i) n
   to (inl (d, inr (inl (i, inl (inr n))))) = copy-extents (eqb-true _ _ i) n
   to (inl (d, inr (inr (i, inl (g, n))))) = no_tiles (eqb-true _ _ g) n

@@ -7,13 +7,13 @@ use mathlib.Core.Path.{◌≡◌, refl, sym, ap, ◌∙◌}
 use mathlib.Core.List.{List, [], ◌∷◌, ◌++◌}
 use mathlib.Core.Bool.{Bool, true, false, ◌&&◌, ◌||◌, not}
 use mathlib.Core.Logic.{◌⊎◌, inl, inr}
-use lib.ListN.{length, get_or, get_or-eq_default}
+use lib.ListN.{length, get_or-eq_default}
 use lib.Dec.{leb, eqb}
 use borrow.Author.Tests.{eqb-true, eqb-false, eq-eqb}
 use Rattle.fields.specs.Choice.{pick}
 use Rattle.fields.specs.Lists.{member}
 use Rattle.fields.proofs.FieldLaws.{both}
-use Rattle.fields.proofs.TestLaws.{untrue, and_both, both-and, or_either, member-there}
+use Rattle.fields.proofs.TestLaws.{untrue, and_both, both-and, member-there}
 use Rattle.boxes.specs.Answer.{ok}
 use Rattle.boxes.specs.Types.{ispe, hvc1, known_property, coded, image}
 use Rattle.boxes.specs.Box.{kind_of}
@@ -24,7 +24,7 @@ use Rattle.contents.specs.File.{File}
 use Rattle.pictures.specs.Decode.{transform}
 use Rattle.rules.specs.Joined.{location_of, associations_of, property_at, row_of, no_item, item_at}
 use Rattle.rules.specs.Bytes.{all_extents, good_method, good_lengths, named, chained, length_of, names_past, source_of, byte_of, within}
-use Rattle.rules.specs.inner.Direct.{Store, store_of}
+use Rattle.rules.specs.inner.Direct.{store_of}
 use Rattle.rules.specs.Links.{Among, BadChain}
 use Rattle.rules.specs.Derivations.{nothing_in}
 use Rattle.rules.specs.Rules.{good_primary, has_bytes, essential_known, configurations, one_marked, configured, count_of, ispe_before, good_ispe}
@@ -114,6 +114,7 @@ tells_chained f id = tells_as (thirty f id).0 (thirty f id).1 (tells_itself (cha
 
 -- Any, of what is known of each
 any_as : (P Q : Extent → Type 0) (es : List Extent) → ((e : Extent) → Among e es → P e → Q e) → Any P es → Any Q es
+any_as P Q [] h a = elim a [ ]
 any_as P Q (x ∷ es) h (inl p) = inl (h x (inl refl) p)
 any_as P Q (x ∷ es) h (inr a) = inr (any_as P Q es (λ e i. h e (inr i)) a)
 

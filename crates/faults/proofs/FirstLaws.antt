@@ -9,7 +9,6 @@ use mathlib.Core.List.{List, [], ◌∷◌}
 use mathlib.Core.Bool.{Bool, true, false}
 use mathlib.Core.Logic.{◌⊎◌, inl, inr}
 use lib.ListN.{length, get_or}
-use Rattle.fields.specs.Choice.{pick}
 use Rattle.boxes.specs.Answer.{Answer, ok, refuse, check, ◌>>◌}
 use Rattle.boxes.proofs.AnswerLaws.{check-ok}
 use Rattle.contents.specs.Iinf.{Item}

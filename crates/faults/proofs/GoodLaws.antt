@@ -7,13 +7,11 @@ use mathlib.Core.Logic.{◌⊎◌, inl, inr}
 use Rattle.boxes.specs.Answer.{Answer, ok, refuse, ◌>>◌}
 use Rattle.boxes.proofs.AnswerLaws.{bind_ok, ok_bind, then_ok, ok-then, ok_inj, bind_refuse, with_then, refuse_bind, refuse-same, not-refused}
 use Rattle.contents.specs.File.{File, read_file}
-use Rattle.contents.specs.Keeps.{FileIn}
 use Rattle.contents.proofs.ReadLaws.{read-sound, read-complete, one_in}
 use Rattle.contents.proofs.BreakLaws.{read_broken, broken_read}
 use Rattle.rules.specs.Rules.{judged}
 use Rattle.rules.specs.Opening.{accepted}
-use Rattle.faults.specs.Fault.{Rule, Number, rule_of}
-use Rattle.faults.specs.Order.{First}
+use Rattle.faults.specs.Fault.{rule_of}
 use Rattle.faults.specs.Good.{GoodFile, Refused, unread, at_fault}
 use Rattle.faults.proofs.JudgedLaws.{judged-good, judged-first, good-judged, first-judged}
 

@@ -4,7 +4,7 @@ use native.Mathlib.Nat.{add-zero, zero-add}
 use native.Mathlib.Decide.{dec_lt}
 use native.Mathlib.Omega.{arith}
 use mathlib.Core.Path.{◌≡◌, refl, sym, ap, subst, ◌∙◌}
-use mathlib.Core.List.{List, [], ◌∷◌, map}
+use mathlib.Core.List.{List, [], ◌∷◌}
 use mathlib.Core.Bool.{Bool, true, false, ◌&&◌}
 use mathlib.Core.Logic.{◌⊎◌, inl, inr}
 use lib.ListN.{length, get_or}
@@ -19,16 +19,16 @@ use Rattle.boxes.proofs.AnswerLaws.{then_ok, check-ok}
 use Rattle.contents.specs.Iinf.{Item}
 use Rattle.contents.specs.File.{File}
 use Rattle.pictures.specs.Turn.{AllFit}
-use Rattle.pictures.specs.Scene.{Picture, Scene, picture_at, output_of, good_size}
+use Rattle.pictures.specs.Scene.{Scene, picture_at, output_of, good_size}
 use Rattle.pictures.specs.Depth.{depth, derives_itself}
 use Rattle.pictures.proofs.DecodeLaws.{turns_fit}
 use Rattle.pictures.proofs.DepthLaws.{itself_derives, derives_itself_lem}
-use Rattle.rules.specs.Joined.{location_of, boxes_of, types_of, no_item, item_at}
+use Rattle.rules.specs.Joined.{location_of, boxes_of, types_of, item_at}
 use Rattle.rules.specs.Bytes.{good_method, chained}
 use Rattle.rules.specs.Derivations.{scene_of}
 use Rattle.rules.specs.Rules.{in_order, by_depth, rule12, rule13-30-14, rule15-29-16, rule17, rule18, rule19, rule20, judged}
 use Rattle.rules.proofs.SceneLaws.{turns_at}
-use Rattle.faults.specs.Fault.{Rule, Number, n12, n13, n30, n14, n15, n29, n16, n17, n18, n19, n20, rule_of, Fault}
+use Rattle.faults.specs.Fault.{Number, n12, n13, n30, n14, n15, n29, n16, n17, n18, n19, n20, rule_of, Fault}
 use Rattle.faults.specs.Order.{Earlier, order_of, First}
 use Rattle.faults.proofs.TellsLaws.{Tells, tells_as, tells_not, tells_most}
 use Rattle.faults.proofs.FaultLaws.{tells_primary, tells_place, tells_chained, tells_bytes, tells_readable, tells_configured, tells_ispe}
@@ -209,7 +209,8 @@ module _ (total : ℕ) (head : List ℕ) (f : File) where
 
     itself_examined : Ex (rule18 s r (item_at f r)) (J n18 r)
     unfolding rule18
-    itself_examined = examines_check total head f n18 r _ (told n18 r l (tells_as (itself_derives s r) (derives_itself_lem s r) (tells_not (derives_itself s r))))
+    itself_examined = examines_check total head f n18 r _
+        (told n18 r l (tells_as (itself_derives s r) (derives_itself_lem s r) (tells_not (derives_itself s r))))
 
     deep_examined : Ex (rule19 s r (item_at f r)) (J n19 r)
     unfolding rule19

@@ -1,16 +1,15 @@
 -- 20: the test of sizes tells wrong sizes. Assumes nothing.
-use Prim.Native.Nat.{ℕ, ◌*◌, ◌≤◌, ◌<◌}
-use native.Mathlib.Omega.{arith}
-use mathlib.Core.Path.{◌≡◌, refl, sym, ap, subst, ◌∙◌}
-use mathlib.Core.List.{List, [], ◌∷◌}
-use mathlib.Core.Bool.{Bool, true, false, ◌&&◌}
+use Prim.Native.Nat.{ℕ, ◌*◌, ◌<◌}
+use mathlib.Core.Path.{◌≡◌, refl, sym, ap, subst}
+use mathlib.Core.List.{[]}
+use mathlib.Core.Bool.{Bool, true, false}
 use mathlib.Core.Logic.{◌⊎◌, inl, inr}
-use lib.Dec.{leb, eqb}
+use lib.Dec.{leb}
 use borrow.Author.Tests.{leb-true, le-leb, eq-eqb}
 use Rattle.fields.proofs.TestLaws.{untrue, and_both, both-and}
 use Rattle.pictures.specs.declared.Size.{Size}
 use Rattle.pictures.specs.Turn.{size, AllFit}
-use Rattle.pictures.specs.Recipe.{Recipe, Coded, Copy, Opaque, Tiles, Layers, Grid, Overlay}
+use Rattle.pictures.specs.Recipe.{Recipe, Coded, Copy, Opaque, Tiles, Layers}
 use Rattle.pictures.specs.Scene.{Picture, Scene, picture_at, output_of, first_input, same_size, good_side, good_size, all_size, covered, made_up, good_sizes}
 use Rattle.pictures.proofs.SceneLaws.{same_size_lem}
 use Rattle.faults.specs.Fault.{

@@ -8,7 +8,6 @@ use mathlib.Core.Bool.{Bool, true, false, ◌&&◌, ◌||◌, not}
 use mathlib.Core.Logic.{◌⊎◌, inl, inr}
 use lib.Dec.{leb, eqb}
 use borrow.Author.Tests.{leb-true, leb-false, eqb-true, eqb-false}
-use Rattle.fields.specs.Choice.{pick}
 use Rattle.fields.proofs.TestLaws.{untrue}
 use Rattle.faults.specs.Fault.{Any, Not}
 

@@ -9,7 +9,6 @@ use Rattle.fields.specs.Lists.{member}
 use Rattle.boxes.specs.Answer.{ok}
 use Rattle.boxes.specs.Types.{ispe, hvc1, iden, grid, iovl, known_property, coded, derived, image}
 use Rattle.boxes.specs.Box.{kind_of}
-use Rattle.forms.specs.Form.{Form}
 use Rattle.contents.specs.Iinf.{Item}
 use Rattle.contents.specs.Iloc.{Extent, Location}
 use Rattle.contents.specs.Ipma.{Association}
@@ -17,7 +16,7 @@ use Rattle.contents.specs.File.{File}
 use Rattle.pictures.specs.declared.Size.{Size}
 use Rattle.pictures.specs.Turn.{size, AllFit}
 use Rattle.pictures.specs.Decode.{transform}
-use Rattle.pictures.specs.Recipe.{Recipe, Copy, Tiles, Layers, Grid, Overlay, grid_form, iovl_form}
+use Rattle.pictures.specs.Recipe.{Copy, Tiles, Layers, Grid, Overlay, grid_form, iovl_form}
 use Rattle.pictures.specs.Scene.{Picture, Scene, picture_at, output_of, first_input}
 use Rattle.pictures.specs.Depth.{Derives, depth}
 use Rattle.rules.specs.Joined.{location_of, associations_of, targets_of, property_at, types_of, row_of, item_at}

@@ -6,7 +6,7 @@ use Rattle.std.specs.Prelude.{ℕ, ◌≡◌, List}
 use Rattle.contents.specs.File.{File}
 use Rattle.contents.specs.Keeps.{FileIn}
 use Rattle.contents.specs.Breaks.{Broken}
-use Rattle.faults.specs.Fault.{Rule, Number, rule_of, Fault}
+use Rattle.faults.specs.Fault.{Number, rule_of, Fault}
 use Rattle.faults.specs.Order.{First}
 
 pub record GoodFile (total : ℕ) (head : List ℕ) (f : File) : Type 0 where

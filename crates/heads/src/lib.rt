@@ -1,4 +1,6 @@
 // What the programs of the tests read from standard input: numbers, most significant byte first, and bytes that follow their length.
+#![tactic(auto)]
+
 ghost use Rattle.std.specs.Prelude.{◌≡◌, ◌≤◌, ◌<◌, ◌+◌, ◌*◌, ◌%◌, length};
 
 // 4 bytes as a number.

@@ -1,6 +1,12 @@
-// What the programs over `still` begin with: standard input as a head and a total, and a table to lend.
+// What the programs over `still` begin with: standard input as a head and a total, the arguments, and a table to lend.
+#![tactic(auto)]
+
 ghost use Rattle.std.specs.Prelude.{◌≡◌, length};
+ghost use Rattle.io.specs.Counts.{IsPrefixLen};
 ghost use Rattle.input.specs.inner.Within.{AtLeast, Within};
+
+use std::env::{Env, FillError};
+use std::io::Read;
 
 // A table of just the words that a file needs.
 pub fn new_table() -> [u32; 11280]
@@ -15,22 +21,20 @@ enum Counted {
     Failed,
 }
 
-// Counts on to the end of standard input. It stops at 2^62, far past any file.
-fn count_on(kept: u64) -> Counted
+// Counts on to the end of what is read. It stops at 2^62, far past any file.
+fn count_on<R: Read>(reader: &mut R, kept: u64) -> Counted
     ensures { AtLeast kept result }
 {
     let mut buffer = io::large_buffer();
     let mut total = kept;
     while total < 4611686018427387904 {
-        let got = libc::read(0, &mut buffer);
-        let n = io::count(got, &buffer) as u64;
+        let Ok(n) = reader.read(&mut buffer) else {
+            return Counted::Failed;
+        };
         if n == 0 {
-            if got < 0 {
-                return Counted::Failed;
-            }
             return Counted::Is(total);
         }
-        total += n;
+        total += n as u64;
     }
     Counted::Is(total)
 }
@@ -43,15 +47,43 @@ pub enum Input {
     Failed,
 }
 
-// Reads standard input to its end: fills the head that is lent, and counts what follows.
-pub fn read_input(head: &mut [u8]) -> Input
+// Reads standard input to its end: fills the head that is lent, and counts what follows. Where a read fails while the head
+// is filled, counting on meets that again.
+pub fn read_input(rt: &HostRuntime, head: &mut [u8]) -> Input
     ensures { Within head.new result }
 {
     let here = io::read_full(0, head);
-    let counted = count_on(here as u64);
+    let counted = count_on(&mut rt.stdin(), here as u64);
     match counted {
         Counted::Failed => Input::Failed,
         Counted::Is(total) => Input::Is { here, total },
+    }
+}
+
+// How many arguments there are, the program's own name among them.
+pub fn argument_count(rt: &impl Env) -> usize {
+    for i in 0..usize::MAX {
+        if !has_argument(rt, i) {
+            return i;
+        }
+    }
+    usize::MAX
+}
+
+fn has_argument(rt: &impl Env, i: usize) -> bool {
+    let mut text = [0u8; 1];
+    let got = rt.arg(i, &mut text);
+    !matches!(got, Err(FillError::NotPresent))
+}
+
+// Puts argument i at the start of text and returns its length, or 0 where there is none or it is longer than text.
+pub fn argument(rt: &impl Env, i: usize, text: &mut [u8]) -> usize
+    ensures { IsPrefixLen result text.new }
+{
+    let got = rt.arg(i, text);
+    match got {
+        Ok(n) => n,
+        Err(_) => 0,
     }
 }
 

@@ -31,7 +31,8 @@ module _ (a : Answer (List Item)) (t u : List ℕ) (k : Kept t u) where
   pub stored_refused : (n p : ℕ) → a ≡ refuse n p → Stored a t u
   stored_refused n p e = record { kept = k; told = λ pl x is q r. let z : ◌≡◌ {A = ℕ} 0 1 = cc in absurd (omega arith) }
 
-  pub stored_ok : (is : List Item) → a ≡ ok is → ((pl : Places) (x : List ℕ) → t ≡ raw_of [] pl unread ++ x → u ≡ raw_of [] pl (with_items is) ++ x) → Stored a t u
+  pub stored_ok : (is : List Item) → a ≡ ok is → ((pl : Places) (x : List ℕ) → t ≡ raw_of [] pl unread ++ x →
+      u ≡ raw_of [] pl (with_items is) ++ x) → Stored a t u
   stored_ok is e h =
       record { kept = k; told = λ pl x js q r. h pl x r ∙ ap (λ (l : List Item). raw_of [] pl (with_items l) ++ x) (ok_inj is js (sym e ∙ q)) }
 

@@ -1,4 +1,6 @@
 // `iinf`: the items into their records.
+#![tactic(auto)]
+
 ghost use Rattle.std.specs.Prelude.{◌≡◌, ◌⊎◌, List, [], ◌∷◌, ◌++◌, ℕ, ◌+◌, ◌-◌, ◌≤◌, ◌<◌, length, take, drop, replicate, eqb};
 ghost use Rattle.fields.specs.Choice.{pick};
 ghost use Rattle.boxes.specs.Exactly.{exactly};
@@ -44,7 +46,7 @@ pub enum InfeRead {
 }
 
 // Where the keys of the rows that are filled begin and end.
-#[derive(Drop)]
+#[derive(Clone, Copy)]
 pub struct Keys {
     pub first: usize,
     pub end: usize,

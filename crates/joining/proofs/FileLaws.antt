@@ -95,14 +95,14 @@ module _ (total : ℕ) (head : List ℕ) (f : File) (few : total < 1844674407370
     pub offset_lift : offset_at t (first_extent t r + j) ≡ file_offset (places_in total head) (location_of f (id_of f r)) its
     offset_lift = w.extent-offset r j h l ∙ capped_same _ (omega (arith, extent-below total head f few e placed r j h l))
 
-    offset-named : file.madeOfItems f (id_of f r) ≡ true → offset_at t (first_extent t r + j) ≡ (location_of f (id_of f r)).base + its.offset
+    offset-named : file.made_of_items f (id_of f r) ≡ true → offset_at t (first_extent t r + j) ≡ (location_of f (id_of f r)).base + its.offset
     offset-named m = offset_lift ∙ offset_made (places_in total head) (location_of f (id_of f r)) its (eqb-true _ 2 m)
 
     ends-below : offset_at t (first_extent t r + j) + size_at t (first_extent t r + j) < 18446744073709551616
     ends-below = omega (arith, offset_lift, w.extent-size r j h l, extent-below total head f few e placed r j h l)
 
     -- of method 0 or 1: a byte of it lies in the file where the table says
-    file-byte : (x : ℕ → ℕ → Answer ℕ) (q : ℕ) → file.madeOfItems f (id_of f r) ≡ false → q < its.size →
+    file-byte : (x : ℕ → ℕ → Answer ℕ) (q : ℕ) → file.made_of_items f (id_of f r) ≡ false → q < its.size →
         (source_of total head f x (id_of f r) its).byte ((location_of f (id_of f r)).base + its.offset + q)
         ≡ known head (offset_at t (first_extent t r + j) + q)
     unfolding file_offset pick
@@ -133,7 +133,7 @@ module _ (total : ℕ) (head : List ℕ) (f : File) (few : total < 1844674407370
   module _ (v : List ℕ) (n : NamedIn f v) where
     -- what an extent names, where the chain of its item ends
     module _ (k r j : ℕ) (h : r < length f.items) (c : file.chained (suc k) f (id_of f r) ≡ true)
-        (m : file.madeOfItems f (id_of f r) ≡ true) (l : j < length (location_of f (id_of f r)).extents) where
+        (m : file.made_of_items f (id_of f r) ≡ true) (l : j < length (location_of f (id_of f r)).extents) where
       -- its bytes are those of the row that is named
       item-byte : ((i : ℕ) → i < length f.items → (q : ℕ) → file.chained k f (id_of f i) ≡ true →
           byte_of total head f k (id_of f i) q ≡ known head (place_of k t v i q)) → (q : ℕ) →
@@ -162,7 +162,7 @@ module _ (total : ℕ) (head : List ℕ) (f : File) (few : total < 1844674407370
     known-byte (suc k) r p h c =
         placed-byte t head head_below _ (location_of f (id_of f r)).base (λ a q. pick (made_of_items t r) (place_of k t v (named_row v a) q) q)
         (first_extent t r) (location_of f (id_of f r)).extents p (λ j l. w.extent-size r j h l)
-        (λ j q l s. by_test (file.madeOfItems f (id_of f r))
+        (λ j q l s. by_test (file.made_of_items f (id_of f r))
         (λ m. item-byte k r j h c m l (λ i z o d. known-byte k i o z d) q ∙ ap (known head) (sym (pick_yes _ _ (made_lift w r h ∙ m))))
         (λ m. file-byte r j h l _ q m s ∙ ap (known head) (sym (pick_no _ _ (made_lift w r h ∙ m)))))
         ∙ ap (λ (i : ℕ). known head (place_from (λ a q. pick (made_of_items t r) (place_of k t v (named_row v a) q) q) t (first_extent t r) i p))
@@ -185,7 +185,7 @@ module _ (total : ℕ) (head : List ℕ) (f : File) (few : total < 1844674407370
     body_lift r h l =
         ok-then _ _ tt (ok-check 17 (id_of f r) _ (le-leb (length_of f (id_of f r)) 16402 l)) ∙ upto_lift r (length_of f (id_of f r)) h
 
-    ends-inside : (r j : ℕ) (h : r < length f.items) → file.madeOfItems f (id_of f r) ≡ true →
+    ends-inside : (r j : ℕ) (h : r < length f.items) → file.made_of_items f (id_of f r) ≡ true →
         j < length (location_of f (id_of f r)).extents →
         offset_at t (first_extent t r + j) + size_at t (first_extent t r + j) ≤ length_sum t (named_by t v r j)
     ends-inside r j h m l =

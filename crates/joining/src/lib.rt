@@ -1,5 +1,7 @@
 // The bytes of an item, its extents joined, also where they are made of other items' bytes (document 02, Q-7).
 // `rows` has from 2,304 on, extent by extent, the row that a method 2 extent names.
+#![tactic(auto)]
+
 ghost use Rattle.std.specs.Prelude.{◌≡◌, true, List, ℕ, ◌+◌, ◌-◌, ◌≤◌, ◌<◌, length, get_or, take, drop, ltb, leb};
 ghost use Rattle.std.proofs.lemmas.List.Edits.{sets};
 ghost use Rattle.fields.specs.Choice.{pick};

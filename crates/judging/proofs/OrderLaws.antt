@@ -48,7 +48,7 @@ place_blames total head f i =
 module _ (g : ℕ → Item → Answer (Unit {0})) (f : File) (blames : (r : ℕ) (i : Item) → Blames i.id (g r i)) where
   told-end : (k : ℕ) → length f.items ≤ k → orders.from g f 0 ≡ orders.from g f k → Good ≡ told_judged (orders.from g f 0)
   unfolding told_judged
-  told-end k h e = sym (ap told_judged (e ∙ orders.order-end g f k h))
+  told-end k h e = sym (ap told_judged (e ∙ orders.order_end g f k h))
 
   -- the item in row r, at place k in table order
   module _ (k r n : ℕ) (h : k < length f.items) (e : orders.from g f 0 ≡ orders.from g f k) (i : r ≡ k)
@@ -57,11 +57,11 @@ module _ (g : ℕ → Item → Answer (Unit {0})) (f : File) (blames : (r : ℕ)
     told = rw i at q
 
     told-on : n ≡ 0 → orders.from g f 0 ≡ orders.from g f (k + 1)
-    told-on z = e ∙ orders.order-on g f k n h (blames k (item_at f k)) told z
+    told-on z = e ∙ orders.order_on g f k n h (blames k (item_at f k)) told z
 
     told_off : (n ≡ 0 → ⊥) → (id : ℕ) → id ≡ (item_at f r).id → Refused (record { number = n; place = id }) ≡ told_judged (orders.from g f 0)
     unfolding told_judged
-    told_off z id j = rw (j, i) (sym (ap told_judged (e ∙ orders.order-off g f k n h (blames k (item_at f k)) told z)))
+    told_off z id j = rw (j, i) (sym (ap told_judged (e ∙ orders.order_off g f k n h (blames k (item_at f k)) told z)))
 
 module _ (rule : Rule) (total : ℕ) (head : List ℕ) (f : File) where
   abbrev pub from : ℕ → Answer (Unit {0})

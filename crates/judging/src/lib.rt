@@ -1,4 +1,6 @@
 // Judging: refusals 12 to 20, 29 and 30 in the order of document 01, and the sizes into the table.
+#![tactic(auto)]
+
 ghost use Rattle.std.specs.Prelude.{◌≡◌, List, ◌&&◌, not, ℕ, ◌≤◌, ◌<◌, length, drop};
 ghost use Rattle.contents.specs.Iinf.{Item};
 ghost use Rattle.contents.specs.File.{File};
@@ -28,7 +30,7 @@ pub enum Judged {
 }
 
 // A rule that is asked of each item in table order.
-#[derive(Drop)]
+#[derive(Clone, Copy)]
 pub enum Rule {
     // 13 before 14; 30 stands for every item that is made of others.
     Placed,

@@ -1,4 +1,6 @@
 // How pictures lie on a page. The marks that show it are for crate `canvas` to write.
+#![tactic(auto)]
+
 mod margins;
 mod number;
 mod part;

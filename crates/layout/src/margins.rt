@@ -7,7 +7,7 @@ ghost use Rattle.layout.specs.inner.Margins.{margins, margins_after};
 use pictures::{Size, Turn};
 
 // How much was cut away at each side of a picture.
-#[derive(Drop)]
+#[derive(Clone, Copy)]
 pub struct Margins {
     pub left: u32,
     pub top: u32,

@@ -7,7 +7,7 @@ use crate::pose::Pose;
 use pictures::Size;
 
 // The first and the last column and row of what is seen of a picture.
-#[derive(Drop)]
+#[derive(Clone, Copy)]
 pub struct Part {
     pub left: u32,
     pub top: u32,

@@ -5,7 +5,7 @@ ghost use Rattle.layout.specs.inner.Pose.{pose_of, composed_of, upright_of};
 use pictures::Turn;
 
 // One of the eight ways in which a picture can lie: so many quarter turns to the left, and 4 more if it is mirrored before them.
-#[derive(Drop)]
+#[derive(Clone, Copy)]
 pub struct Pose(pub u32);
 
 pub fn pose_of(t: Turn) -> Pose

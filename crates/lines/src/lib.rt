@@ -1,4 +1,6 @@
 // The lines of the listing program, for one file, and what other programs' lines share with them.
+#![tactic(auto)]
+
 ghost use Rattle.std.specs.Prelude.{◌≡◌, length};
 
 use asked::FileVerdict;

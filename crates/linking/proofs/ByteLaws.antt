@@ -46,7 +46,6 @@ use Rattle.linking.proofs.LinkLaws.{
   some_at,
   some-none,
   some_same,
-  chain-on,
   level-low,
   level-chained,
   chained-level,

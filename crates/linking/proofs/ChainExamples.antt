@@ -3,7 +3,6 @@
 use Prim.Native.Nat.{ℕ}
 use mathlib.Core.Path.{◌≡◌, refl}
 use mathlib.Core.List.{List, [], ◌∷◌, ◌++◌}
-use mathlib.Core.Bool.{true, false}
 use lib.ListN.{replicate}
 use Rattle.fields.specs.Choice.{pick}
 use Rattle.linking.specs.inner.Links.{every, least, chained, level}

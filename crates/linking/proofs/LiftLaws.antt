@@ -200,7 +200,7 @@ id-row f d id m =
 
 module _ {t head : List ℕ} {pl : Places} {f : File} (w : TableOf t head pl f) where
   -- methods and lengths
-  pub made_lift : (r : ℕ) → r < length f.items → made_of_items t r ≡ file.madeOfItems f (id_of f r)
+  pub made_lift : (r : ℕ) → r < length f.items → made_of_items t r ≡ file.made_of_items f (id_of f r)
   made_lift r h = ap (λ (m : ℕ). eqb m 2) (w.method r h)
 
   pub length_lift : (r : ℕ) → r < length f.items → length_sum t r ≡ length_of f (id_of f r)
@@ -225,7 +225,7 @@ module _ {t head : List ℕ} {pl : Places} {f : File} (w : TableOf t head pl f) 
   -- v has what extents name
   module _ (v : List ℕ) (n : NamedIn f v) where
     -- "A link goes from a method 2 item to the target that its extent's index picks"
-    module _ (r j : ℕ) (h : r < length f.items) (m : file.madeOfItems f (id_of f r) ≡ true)
+    module _ (r j : ℕ) (h : r < length f.items) (m : file.made_of_items f (id_of f r) ≡ true)
         (l : j < length (location_of f (id_of f r)).extents) where
       abbrev its : Extent
       its = get_or (location_of f (id_of f r)).extents j no_extent
@@ -289,7 +289,7 @@ module _ {t head : List ℕ} {pl : Places} {f : File} (w : TableOf t head pl f) 
     unfolding chained file.chained
     chained_lift zero r h = ap not (made_lift r h)
     chained_lift (suc k) r h =
-        by_test (file.madeOfItems f (id_of f r))
+        by_test (file.made_of_items f (id_of f r))
         (λ m. rw (made_lift r h, m) (ap (every _) (w.extent-count r h)
         ∙ every-extents (λ j. ltb (named_by t v r j) 256 && chained k t v (named_by t v r j))
         (λ (e : Extent). of_named (λ i. file.chained k f i) (named f (id_of f r) e)) (location_of f (id_of f r)).extents
@@ -297,14 +297,14 @@ module _ {t head : List ℕ} {pl : Places} {f : File} (w : TableOf t head pl f) 
         (λ m. rw (made_lift r h, m) refl)
 
     -- 14, "at any depth"
-    pub past_lift : (k r : ℕ) → r < length f.items → names_past k t v r ≡ file.namesPast k f (id_of f r)
-    unfolding names_past file.namesPast
+    pub past_lift : (k r : ℕ) → r < length f.items → names_past k t v r ≡ file.names_past k f (id_of f r)
+    unfolding names_past file.names_past
     past_lift zero r h = refl
     past_lift (suc k) r h =
-        by_test (file.madeOfItems f (id_of f r))
+        by_test (file.made_of_items f (id_of f r))
         (λ m. rw (made_lift r h, m) (ap (some _) (w.extent-count r h)
         ∙ some-extents (λ j. ltb (named_by t v r j) 256 && (is_past t (named_by t v r j) || names_past k t v (named_by t v r j)))
-        (λ (e : Extent). of_named (λ i. sums_past f i || file.namesPast k f i) (named f (id_of f r) e)) (location_of f (id_of f r)).extents
-        (λ j l. test_lift r j h m l (λ q. is_past t q || names_past k t v q) (λ i. sums_past f i || file.namesPast k f i)
+        (λ (e : Extent). of_named (λ i. sums_past f i || file.names_past k f i) (named f (id_of f r) e)) (location_of f (id_of f r)).extents
+        (λ j l. test_lift r j h m l (λ q. is_past t q || names_past k t v q) (λ i. sums_past f i || file.names_past k f i)
         (λ q z. ap (λ (b : Bool). b || names_past k t v q) (is-past_lift q z) ∙ ap (λ (b : Bool). sums_past f (id_of f q) || b) (past_lift k q z)))))
         (λ m. rw (made_lift r h, m) refl)

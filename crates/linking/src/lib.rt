@@ -1,5 +1,7 @@
 // How items' bytes are made of other items' bytes: how far down each goes, and how long each is (document 02, Q-7).
 // `rows` has from 2,304 on, extent by extent, the row that a method 2 extent names; over 255 where there is no such reference.
+#![tactic(auto)]
+
 ghost use Rattle.std.specs.Prelude.{◌≡◌, List, true, not, ℕ, ◌+◌, ◌-◌, ◌≤◌, ◌<◌, length, get_or};
 ghost use Rattle.records.specs.inner.Raw.{capped};
 ghost use Rattle.linking.specs.inner.Links.{first_extent, extents, offset_at, size_at, every, some, chained, level, sum_from, length_sum, names_past, LinksIn};

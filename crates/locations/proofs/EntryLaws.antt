@@ -183,7 +183,8 @@ unfolding extents_at
 extents-count i o l s at zero = refl
 extents-count i o l s at (suc k) = rw (extents-count i o l s (at + (i + o + l)) k)
 
-pub extents_next : (i o l : ℕ) (s : List ℕ) (at k : ℕ) → extents_at i o l s at (suc k) ≡ extents_at i o l s at k ++ (extent_at i o l s (at + k * (i + o + l)) ∷ [])
+pub extents_next : (i o l : ℕ) (s : List ℕ) (at k : ℕ) → extents_at i o l s at (suc k) ≡ extents_at i o l s at k ++
+    (extent_at i o l s (at + k * (i + o + l)) ∷ [])
 unfolding extents_at
 extents_next i o l s at zero = let e : at ≡ at + 0 * (i + o + l) = omega (arith, zero-mul ((i + o + l))) in rw (← e)
 extents_next i o l s at (suc k) =

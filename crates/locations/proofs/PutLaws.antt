@@ -80,7 +80,8 @@ rows-raw pl l idat q es =
     ap (λ (x : ℕ). high_low (capped x) ++ high_low (get_or es j no_extent).size) e)
 
 -- no extent in the table, and one more
-pub extents_begun : (i o l : ℕ) (s : List ℕ) (at start used : ℕ) (t : List ℕ) → t ≡ sets t (9232 + 4 * used) (join_all (row_from start) (extents_at i o l s at 0))
+pub extents_begun : (i o l : ℕ) (s : List ℕ) (at start used : ℕ) (t : List ℕ) →
+    t ≡ sets t (9232 + 4 * used) (join_all (row_from start) (extents_at i o l s at 0))
 unfolding extents_at join_all
 extents_begun i o l s at start used t = refl
 
@@ -103,7 +104,8 @@ extents-stored i o l s at start used j a x z c t u v eu ea ex ez ec ev =
     in
     ev
     ∙ rw (eu, q, ec, ex, ez, ea)
-    (sym (ap (λ (r : List ℕ). sets t (9232 + 4 * used) r) next ∙ sets_append ws (row_from start (extent_at i o l s (at + j * (i + o + l)))) t (9232 + 4 * used)))
+    (sym (ap (λ (r : List ℕ). sets t (9232 + 4 * used) r) next ∙
+    sets_append ws (row_from start (extent_at i o l s (at + j * (i + o + l)))) t (9232 + 4 * used)))
 
 -- where one of so many extents ends, and what bounds their sizes
 pub one-fits : (at k j e a n : ℕ) → at + k * e ≤ n → j < k → a ≡ at + j * e → a + e ≤ n

@@ -1,4 +1,6 @@
 // `iloc`: where the bytes of the items lie, into extents and records.
+#![tactic(auto)]
+
 ghost use Rattle.std.specs.Prelude.{◌≡◌, List, [], ◌++◌, map, ◌&&◌, ◌⊎◌, ◌+◌, ◌*◌, ◌%◌, ◌≤◌, ◌<◌, length, drop, eqb};
 ghost use Rattle.std.proofs.lemmas.List.Edits.{sets};
 ghost use Rattle.fields.specs.Choice.{pick};
@@ -39,7 +41,7 @@ use records::FoundRow;
 use table::{ItemId, ItemRow, Table};
 
 // How many bytes the fields of an entry have.
-#[derive(Drop)]
+#[derive(Clone, Copy)]
 pub struct Widths {
     pub id: usize,
     pub method: usize,

@@ -1,5 +1,7 @@
 // Rule 18 and the sources: which pictures derive from themselves and what a picture needs, by marks on rows.
 // `table` and `rows` are read as in `depths`.
+#![tactic(auto)]
+
 ghost use Rattle.std.specs.Prelude.{◌≡◌, true, false, ℕ, ◌+◌, ◌≤◌, ◌<◌, length, get_or, eqb};
 ghost use Rattle.pictures.specs.Scene.{Scene};
 ghost use Rattle.pictures.specs.Depth.{depth, derives_itself};

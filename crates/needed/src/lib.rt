@@ -1,4 +1,6 @@
 // Sources: the coded items that an item needs, each once, in table order.
+#![tactic(auto)]
+
 ghost use Rattle.std.specs.Prelude.{◌≡◌, List, ℕ, ◌<◌, ◌≤◌, ◌++◌, ◌&&◌, length, get_or, drop, eqb};
 ghost use Rattle.boxes.specs.Types.{coded};
 ghost use Rattle.views.specs.inner.View.{record_word};

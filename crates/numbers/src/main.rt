@@ -1,4 +1,6 @@
 // Prints the table of refusal numbers that README shows, so that the two say the same.
+#![tactic(auto)]
+
 use words::{PlaceKind, say};
 
 // The subject of a number's words, where its place tells one.

@@ -2,7 +2,7 @@
 -- key's rest by 256 is its row. Assumes nothing.
 use Prim.Native.Nat.{ℕ, suc, ◌+◌, ◌*◌, ◌%◌, ◌≤◌, ◌<◌}
 use native.Mathlib.Omega.{arith}
-use mathlib.Core.Path.{◌≡◌, refl, sym, ap, ◌∙◌, subst}
+use mathlib.Core.Path.{◌≡◌, refl, sym, ap, ◌∙◌}
 use mathlib.Core.List.{List, [], ◌∷◌, map}
 use mathlib.Core.Bool.{Bool, true, false}
 use lib.ListN.{length, get_or}
@@ -17,7 +17,7 @@ use Rattle.contents.specs.File.{File}
 use Rattle.rules.specs.Places.{Places}
 use Rattle.rules.specs.Words.{Filed, filed_from, among_by_id, sorted_behind, by_id}
 use Rattle.arranged.specs.inner.Order.{InOrder}
-use Rattle.records.specs.inner.Keys.{key_of, key_among, keys_from, keys_of, order_of}
+use Rattle.records.specs.inner.Keys.{key_of, key_among, keys_from, order_of}
 use Rattle.records.specs.inner.Rows.{ids_in, Ordered}
 use Rattle.records.proofs.IdLaws.{ids-length, ids_at}
 use Rattle.records.proofs.RawLaws.{id-at, ids-long}

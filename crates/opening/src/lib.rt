@@ -1,4 +1,6 @@
 // A file is opened: read, judged, and its table filled. The questions (crates above) go on from there.
+#![tactic(auto)]
+
 ghost use Rattle.std.specs.Prelude.{◌≡◌, ◌≤◌, length};
 ghost use Rattle.boxes.specs.Answer.{ok};
 ghost use Rattle.contents.specs.File.{File, read_file};

@@ -1,5 +1,7 @@
 // Writes README's picture of the eight orientations, as SVG: a letter that is stored upright, as each of them shows it.
 // The library says which transforms an orientation means, and the marks of ./draw (crate `canvas`) draw them.
+#![tactic(auto)]
+
 use canvas::{put, put_number, put_with};
 use facing::{Transform, TransformList};
 use pictures::{Size, Turn};

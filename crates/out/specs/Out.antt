@@ -2,9 +2,8 @@
 -- the answer's values in document 01's order.
 --   out_refused           number and place of a refusal
 --   out_verdict, out_sized, out_traced, out_points, out_listed, out_part, out_orientation, out_transforms, out_bodied     the eight numbers for an answer
-use Rattle.std.specs.Prelude.{ℕ, List, [], ◌∷◌, Bool, true, false, length}
+use Rattle.std.specs.Prelude.{ℕ, List, [], ◌∷◌, length}
 use Rattle.boxes.specs.Answer.{Answer, ok, refuse}
-use Rattle.pictures.specs.declared.Point.{Point}
 use Rattle.questions.specs.Questions as Q
 use Rattle.traced.specs.Told.{end_number}
 use Rattle.facing.specs.Orientation.{Transform, irot, imir}

@@ -1,4 +1,6 @@
 // The answers as eight numbers, for C: a refusal's number and place, or 0 and 0 and then the answer's values; the rest is 0.
+#![tactic(auto)]
+
 ghost use Rattle.std.specs.Prelude.{◌≡◌, List, ◌++◌, ℕ, ◌≤◌, length};
 ghost use Rattle.boxes.specs.Answer.{Answer, ok};
 ghost use Rattle.contents.specs.File.{File};

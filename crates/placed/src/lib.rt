@@ -1,4 +1,6 @@
 // Refusals 12 to 14 and 30: the primary item, and where an item's bytes lie.
+#![tactic(auto)]
+
 ghost use Rattle.std.specs.Prelude.{◌≡◌, List, true, false, ◌&&◌, not, ℕ, ◌+◌, ◌≤◌, ◌<◌, length, get_or, leb};
 ghost use Rattle.contents.specs.Iloc.{Extent};
 ghost use Rattle.contents.specs.File.{File};
@@ -19,7 +21,7 @@ use table::{ItemId, ItemRow};
 
 // Where the bytes end that an item's extents may lie in, as places of the file. What else ends at a place of its own is
 // a field more here.
-#[derive(Drop)]
+#[derive(Clone, Copy)]
 pub struct Ends {
     // The file.
     pub total: u64,

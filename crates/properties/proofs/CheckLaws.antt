@@ -11,7 +11,7 @@ use borrow.Author.Tests.{ne_eqb, eqb-true, eqb-false}
 use Rattle.fields.specs.Choice.{pick}
 use Rattle.boxes.specs.Answer.{ok, refuse}
 use Rattle.boxes.specs.Types.{ispe, clap, irot, imir}
-use Rattle.forms.specs.Form.{give, field, whole, ◌>>=◌, ◌>>◌}
+use Rattle.forms.specs.Form.{give, field, whole, ◌>>=◌}
 use Rattle.forms.proofs.StepLaws.{reads, over, whole_reads, reads_got, reads_refused, reads_bind, reads_field, reads_short, reads_give, over-end, over-left}
 use Rattle.contents.specs.Full.{full, upto}
 use Rattle.contents.specs.Ipco.{ispe_form, bytes_form, good_content}

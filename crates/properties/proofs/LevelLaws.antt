@@ -146,5 +146,5 @@ module _ (s : List ℕ) (place base : ℕ) where
             size = flat-more so.boxes b ∙ omega (arith, w.its_end);
             here = w.inside;
             same = so.same ∙ from-box s at any_box place base so.boxes kind body end e;
-            level-is = h so.boxes b so.level-is w.its_kind (omega (arith, w.its-body)) (omega (arith, w.its_end));
+            level-is = h so.boxes b so.level-is w.its_kind (omega (arith, w.its_body_lem)) (omega (arith, w.its_end));
           }

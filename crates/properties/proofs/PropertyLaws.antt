@@ -100,8 +100,10 @@ module _ (at : ℕ) (before : List (List ℕ)) (b : List ℕ) where
   property-good e = property_next ∙ ok-then _ _ tt e
 
 -- the table of a file with one property more
-raw-more : (pl : Places) (f : File) (x t : List ℕ) (ps : List (List ℕ)) (b : List ℕ) → Bounded f → t ≡ raw_of [] pl (with_properties f ps) ++ x → length ps < 256
-    → sets t (4112 + 4 * length ps) (kind_of b ∷ (pl.properties + length (flat ps)) ∷ length b ∷ 0 ∷ []) ≡ raw_of [] pl (with_properties f (ps ++ (b ∷ []))) ++ x
+raw-more : (pl : Places) (f : File) (x t : List ℕ) (ps : List (List ℕ)) (b : List ℕ) → Bounded f →
+    t ≡ raw_of [] pl (with_properties f ps) ++ x → length ps < 256
+    → sets t (4112 + 4 * length ps) (kind_of b ∷ (pl.properties + length (flat ps)) ∷ length b ∷ 0 ∷ []) ≡ raw_of [] pl
+    (with_properties f (ps ++ (b ∷ []))) ++ x
 raw-more pl f x t ps b bd is few =
     let bp : Bounded (with_properties f ps) =
     record {

@@ -96,7 +96,16 @@ module _ (a b : List ℕ) (first-box : IsBox a) (second-box : IsBox b) where
 
   -- where l is what the code keeps of the two
   pair_parts : (ids : List ℕ) (base : ℕ) (s : List ℕ) (l : Level) → a ++ b ≡ s
-      → l ≡ record { count = 2; kind0 = kind_of a; body0 = head_of a; end0 = length a; kind1 = kind_of b; body1 = length a + head_of b; end1 = length a + length b }
+      → l ≡ record {
+        count = 2;
+        kind0 = kind_of a;
+        body0 = head_of a;
+        end0 = length a;
+        kind1 = kind_of b;
+        body1 =
+            length a + head_of b;
+        end1 = length a + length b;
+      }
       → pair_shown ids base (head_of a) (length a) (body_of a) (body_of b) ≡ pair_shown ids base l.body0 l.end0
       (take (l.end0 - l.body0) (drop l.body0 s)) (take (l.end1 - l.body1) (drop l.body1 s))
   pair_parts ids base s l j e = rw (e, ← j, first_part, second-part)

@@ -1,5 +1,5 @@
 -- The rows in rising ID order: put behind the rows of the targets, and said of the table once all is read. Assumes nothing.
-use Prim.Native.Nat.{ℕ, suc, ◌+◌, ◌*◌, ◌-◌, ◌%◌, ◌≤◌, ◌<◌}
+use Prim.Native.Nat.{ℕ, suc, ◌+◌, ◌-◌, ◌%◌, ◌≤◌, ◌<◌}
 use native.Mathlib.Omega.{arith}
 use mathlib.Core.Path.{◌≡◌, refl, sym, ap, ◌∙◌, subst}
 use mathlib.Core.List.{List, [], ◌∷◌, ◌++◌, map, map-append, append_assoc}
@@ -18,7 +18,7 @@ use lib.ListN.{
   get_or-append,
 }
 use lib.Seq.{length-take-le, take-suc, drop-cons, append_snoc, get_or-take, get_or-drop, set_at, take_at, drop_at}
-use Rattle.boxes.specs.Answer.{Answer, ok, refuse, ◌>>=◌}
+use Rattle.boxes.specs.Answer.{Answer, ok, refuse}
 use Rattle.boxes.proofs.AnswerLaws.{with_ok, ok_inj}
 use Rattle.contents.specs.Iinf.{Item, ids_of}
 use Rattle.contents.specs.Iref.{targets_in}

@@ -6,7 +6,7 @@ use mathlib.Core.List.{List, [], ◌∷◌}
 use mathlib.Core.Bool.{true, false}
 use mathlib.Core.Logic.{◌⊎◌, inl, inr}
 use lib.ListN.{get_or}
-use Rattle.boxes.specs.Answer.{Answer, ok, refuse, ◌>>=◌, ◌>>◌}
+use Rattle.boxes.specs.Answer.{Answer, ok, refuse, ◌>>=◌}
 use Rattle.boxes.specs.Types.{hdlr, pitm, iinf, iloc, iprp, known}
 use Rattle.boxes.specs.Children.{of_kind, filled, children, the_one, first_or}
 use Rattle.boxes.proofs.AnswerLaws.{ok_bind}

@@ -1,5 +1,5 @@
 -- One stage after another. Assumes nothing.
-use Prim.Native.Nat.{ℕ, zero, suc, ◌+◌, ◌-◌, ◌/◌, ◌%◌, ◌≤◌, ◌<◌}
+use Prim.Native.Nat.{ℕ, zero, suc, ◌+◌, ◌/◌, ◌%◌, ◌≤◌, ◌<◌}
 use native.Mathlib.Omega.{arith}
 use mathlib.Core.Path.{◌≡◌, refl, sym, ap, ◌∙◌, subst}
 use mathlib.Core.List.{List, [], ◌∷◌, ◌++◌}
@@ -7,7 +7,7 @@ use mathlib.Core.Bool.{false}
 use lib.ListN.{length, get_or, take, set, length-map}
 use lib.Seq.{take-suc, take_all}
 use Rattle.boxes.specs.Answer.{Answer, ok, refuse, ◌>>=◌}
-use Rattle.boxes.specs.Types.{iref, idat}
+use Rattle.boxes.specs.Types.{iref}
 use Rattle.boxes.specs.Box.{head_of, body_of}
 use Rattle.boxes.specs.Children.{of_kind, filled, place_of}
 use Rattle.boxes.specs.declared.Spot.{Spot}

@@ -32,7 +32,7 @@ use Rattle.contents.specs.Iinf.{Item, items}
 use Rattle.contents.specs.File.{File, contents_of, file_of, read_file}
 use Rattle.contents.specs.Hdlr.{hdlr_form}
 use Rattle.contents.specs.Pitm.{pitm_form}
-use Rattle.contents.specs.Full.{full, between, upto}
+use Rattle.contents.specs.Full.{full, between}
 use Rattle.contents.specs.inner.Told.{told_hdlr, told_pitm, told_full}
 use Rattle.contents.specs.declared.HdlrRead.TheVariants as hdlr-read
 use Rattle.contents.specs.declared.PitmRead.TheVariants as pitm-read
@@ -229,7 +229,8 @@ module _ (p at total : ℕ) (s : List ℕ) where
     pub whole_is : b ≡ false → contents_of p at s ≡ from_handler at (kids s)
     whole_is t = contents_kids p at s found found-is (subst (Missing found) t missing_is)
 
-    pub whole-after : b ≡ false → (r : FileRead) (x u : List ℕ) → After s at total (from_handler at (kids s)) r x u → After s at total (contents_of p at s) r x u
+    pub whole-after : b ≡ false → (r : FileRead) (x u : List ℕ) → After s at total (from_handler at (kids s)) r x u →
+        After s at total (contents_of p at s) r x u
     whole-after t r x u a = after_same s at total _ _ r x u (whole_is t) a
 
 -- what follows version and flags
@@ -297,7 +298,8 @@ meta-part total head m place f =
 -- told_file
 file-refused : (i : ℕ) (m : Answer File) (r : Refusal) → Refused r ≡ told_file i m → m ≡ refuse r.number r.place
 unfolding told_file
-file-refused i m r e = told-refused (told_file i) Refused (λ n p. refl) (λ r q e. cc) (λ a r e. let z : ◌≡◌ {A = ℕ} 0 1 = cc in absurd (omega arith)) m r (sym e)
+file-refused i m r e = told-refused (told_file i) Refused (λ n p. refl) (λ r q e. cc)
+    (λ a r e. let z : ◌≡◌ {A = ℕ} 0 1 = cc in absurd (omega arith)) m r (sym e)
 
 file-ok : (i : ℕ) (m : Answer File) (a b : ℕ) → Is a b ≡ told_file i m → (g : File) × (m ≡ ok g)
 unfolding told_file

@@ -1,4 +1,6 @@
 // Reading: from any bytes to the first fault of 1 to 11 or the file's table.
+#![tactic(auto)]
+
 ghost use Rattle.std.specs.Prelude.{◌≡◌, List, [], ◌∷◌, ◌++◌, ℕ, ◌+◌, ◌/◌, ◌%◌, ◌≤◌, ◌<◌, length, drop, replicate, set};
 ghost use Rattle.fields.specs.Lists.{All};
 ghost use Rattle.boxes.specs.Answer.{ok};

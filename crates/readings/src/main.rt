@@ -2,6 +2,8 @@
 // The input: how many heads (4 bytes), then for each its length (4), the file's total (8) and its bytes.
 // The table is never cleared between heads, and has 20 words more than it needs: the sum shows that nothing of an
 // earlier file is left and nothing behind is written.
+#![tactic(auto)]
+
 ghost use Rattle.std.specs.Prelude.{◌<◌};
 
 use boxes::Refusal;

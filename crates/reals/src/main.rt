@@ -1,5 +1,7 @@
 // Lists many files that other writers wrote: reads them from standard input and prints for each its name and what the listing program must print.
 // The input: how many files (4 bytes); for each its name (length in 4 bytes, then the letters), its total (8) and its head (length in 4, then the bytes).
+#![tactic(auto)]
+
 ghost use Rattle.std.specs.Prelude.{◌≡◌, length};
 
 // A table in which something is left from before.

@@ -1,4 +1,6 @@
 // Item records while a file is read: an item found by its ID, and the keys that say where to look.
+#![tactic(auto)]
+
 ghost use Rattle.std.specs.Prelude.{◌≡◌, true, List, ◌⊎◌, ℕ, ◌+◌, ◌*◌, ◌≤◌, ◌<◌, length, get_or};
 ghost use Rattle.records.specs.inner.Rows.{id_at, FoundIs};
 ghost use Rattle.records.specs.inner.Keys.{key_of, LastUpto, Keyed};

@@ -1,5 +1,5 @@
 -- RowedTo: the rows kept beside the targets, through the stores into the table and into the rows. Assumes nothing.
-use Prim.Native.Nat.{ℕ, suc, ◌+◌, ◌*◌, ◌<◌, ◌≤◌}
+use Prim.Native.Nat.{ℕ, ◌+◌, ◌*◌, ◌<◌, ◌≤◌}
 use native.Mathlib.Nat.{eq-or-lt_of_le}
 use native.Mathlib.Omega.{arith}
 use mathlib.Core.Path.{◌≡◌, refl, sym, ap, ◌∙◌}
@@ -7,7 +7,7 @@ use mathlib.Core.List.{List, [], ◌∷◌}
 use mathlib.Core.Bool.{Bool, true, false}
 use mathlib.Core.Logic.{⊎_elim}
 use lib.ListN.{length, get_or}
-use lib.Seq.{sets, length-sets, get_or-set_same, get_or-set_other}
+use lib.Seq.{sets, length-sets, get_or-set_same}
 use native.Mathlib.Decide.{dec_le}
 use Rattle.fields.specs.Choice.{pick}
 use Rattle.boxes.specs.declared.Refusal.{Refusal}

@@ -1,4 +1,6 @@
 // `iref`: what items are derived from, into targets and records, and what their bytes are made of, into rows.
+#![tactic(auto)]
+
 ghost use Rattle.std.specs.Prelude.{◌≡◌, true, false, List, [], ◌∷◌, ◌++◌, ◌⊎◌, ℕ, ◌+◌, ◌*◌, ◌≤◌, ◌<◌, length, get_or, drop, replicate};
 ghost use Rattle.std.proofs.lemmas.List.Edits.{sets};
 ghost use Rattle.fields.specs.Choice.{pick};
@@ -47,7 +49,7 @@ use records::FoundRow;
 use table::{ItemId, ItemRow, Table};
 
 // What a reference is read for: what an item is derived from, what its bytes are made of, or only that it is well formed.
-#[derive(Drop)]
+#[derive(Clone, Copy)]
 pub enum Purpose {
     Derives,
     Places,

@@ -29,7 +29,6 @@ use Rattle.rules.specs.Joined.{location_of}
 use Rattle.rules.specs.inner.Direct.{Store, store_of, body_by, body_in}
 use Rattle.rules.specs.inner.Direct as Direct
 use Rattle.rules.specs.Bytes.{
-  all_extents,
   named,
   made_of_items,
   chained,

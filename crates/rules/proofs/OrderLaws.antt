@@ -1,14 +1,14 @@
 -- The items in rising ID order (document 02, Q-6): each place once, IDs that rise, and which word of the file's records each
 -- word of the records in that order is. Assumes nothing.
 use Prim.Native.Nat.{ℕ, zero, suc, ◌+◌, ◌*◌, ◌-◌, ◌≤◌, ◌<◌}
-use native.Mathlib.Nat.{mul-suc, mul-zero, add-zero, not-suc-le-zero, le_of_suc-le-suc}
+use native.Mathlib.Nat.{not-suc-le-zero, le_of_suc-le-suc}
 use native.Mathlib.Omega.{arith}
 use native.Mathlib.Decide.{dec_lt}
 use mathlib.Core.Path.{◌≡◌, refl, sym, ap, ◌∙◌, subst}
 use mathlib.Core.List.{List, [], ◌∷◌, ◌++◌, map, append_assoc}
 use mathlib.Core.Bool.{Bool, true, false}
 use mathlib.Core.Logic.{◌⊎◌, inl, inr}
-use lib.ListN.{length, get_or, replicate, length-append, length-replicate, get_or-append, get_or-map}
+use lib.ListN.{length, get_or, replicate, length-append, length-replicate, get_or-append}
 use lib.Seq.{get_or-append-add, get_or_at}
 use lib.Dec.{leb, eqb}
 use borrow.Author.Tests.{leb-true, leb-false, eqb-false}
@@ -26,7 +26,6 @@ use Rattle.contents.specs.Keeps.{ItemStep, Items}
 use Rattle.contents.specs.File.{File, read_file}
 use Rattle.contents.proofs.ReadLaws.{read-sound}
 use Rattle.contents.proofs.LimitLaws.{through-keeps, infe-new, items-few}
-use Rattle.pictures.specs.declared.Size.{Size}
 use Rattle.pictures.specs.Scene.{Scene, picture_at, output_of}
 use Rattle.pictures.specs.Depth.{depth}
 use Rattle.rules.specs.Joined.{no_item, location_of, associations_of, targets_of}

@@ -5,19 +5,17 @@
 --   in-file, in_item           an extent of a placed item ends in its source; one that names an item names one that is not too long
 use Prim.Native.Nat.{ℕ, zero, suc, ◌+◌, ◌≤◌, ◌<◌}
 use native.Mathlib.Nat.{not-suc-le-zero, le_of_suc-le-suc}
-use native.Mathlib.Omega.{arith}
-use mathlib.Core.Path.{◌≡◌, refl, sym, ap, ◌∙◌, subst}
+use mathlib.Core.Path.{◌≡◌, refl, ap, ◌∙◌, subst}
 use mathlib.Core.List.{List, [], ◌∷◌}
-use mathlib.Core.Bool.{Bool, true, false, ◌&&◌, ◌||◌, not}
-use mathlib.Core.Logic.{◌⊎◌, inl, inr, ⊎_elim}
+use mathlib.Core.Bool.{Bool, true, false, not}
+use mathlib.Core.Logic.{inl, inr}
 use lib.ListN.{length, get_or}
 use lib.Dec.{leb}
-use borrow.Author.Tests.{leb-true, leb-false, not-true, not-false}
-use Rattle.fields.specs.Choice.{pick}
+use borrow.Author.Tests.{leb-true, not-true}
 use Rattle.fields.proofs.FieldLaws.{pick_yes, pick_no}
-use Rattle.fields.proofs.TestLaws.{untrue, and_both}
-use Rattle.boxes.specs.Answer.{Answer, ok, refuse}
-use Rattle.boxes.proofs.AnswerLaws.{then_ok, check-ok, ok_inj}
+use Rattle.fields.proofs.TestLaws.{and_both}
+use Rattle.boxes.specs.Answer.{ok}
+use Rattle.boxes.proofs.AnswerLaws.{then_ok, check-ok}
 use Rattle.contents.specs.Iinf.{Item}
 use Rattle.contents.specs.Iloc.{Extent}
 use Rattle.contents.specs.File.{File}
@@ -27,11 +25,9 @@ use Rattle.rules.specs.Bytes.{
   good_method,
   good_lengths,
   named,
-  of_named,
   made_of_items,
   chained,
   length_of,
-  sums_past,
   names_past,
   Source,
   file_source,
@@ -42,7 +38,7 @@ use Rattle.rules.specs.Bytes.{
 }
 use Rattle.rules.specs.Links.{Among, Link}
 use Rattle.rules.specs.Rules.{has_bytes, rule13-30-14}
-use Rattle.rules.proofs.ChainLaws.{all_among, chained-end, chained-link, named-link, unpast_link}
+use Rattle.rules.proofs.ChainLaws.{all_among, chained-link, named-link, unpast_link}
 
 -- extents by their place
 pub among-at : (es : List Extent) (j : ℕ) → j < length es → Among (get_or es j no_extent) es

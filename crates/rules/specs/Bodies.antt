@@ -6,7 +6,6 @@
 use Rattle.std.specs.Prelude.{ℕ, ◌+◌, ◌≤◌, ◌<◌, ◌≡◌, List, [], ◌∷◌, ◌++◌, length, get_or}
 use Rattle.boxes.specs.Answer.{Answer, ok}
 use Rattle.contents.specs.Iloc.{Extent}
-use Rattle.contents.specs.Iref.{Reference}
 use Rattle.contents.specs.File.{File}
 use Rattle.rules.specs.Joined.{location_of}
 use Rattle.rules.specs.Bytes.{length_of, Source, source_of, byte_of}

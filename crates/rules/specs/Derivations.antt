@@ -4,16 +4,16 @@
 use Rattle.std.specs.Prelude.{ℕ, ◌*◌, List, [], ◌∷◌, map, Bool, true, false, ◌&&◌, length, eqb, ltb}
 use Rattle.fields.specs.Choice.{pick}
 use Rattle.boxes.specs.Answer.{Answer, ok, refuse, check, ◌>>=◌, ◌>>◌}
-use Rattle.boxes.specs.Types.{iden, grid, iovl, ispe, coded, derived, image}
+use Rattle.boxes.specs.Types.{iden, grid, ispe, coded, derived, image}
 use Rattle.boxes.specs.Box.{kind_of}
-use Rattle.forms.specs.Form.{Form, whole}
+use Rattle.forms.specs.Form.{whole}
 use Rattle.contents.specs.Iinf.{Item}
 use Rattle.contents.specs.Iloc.{Location}
 use Rattle.contents.specs.File.{File}
 use Rattle.pictures.specs.declared.Size.{Size}
 use Rattle.pictures.specs.Turn.{size}
 use Rattle.pictures.specs.Decode.{ispe_of, turns_of}
-use Rattle.pictures.specs.Recipe.{Recipe, Coded, Copy, Opaque, Tiles, Layers, Grid, Overlay, grid_form, iovl_form}
+use Rattle.pictures.specs.Recipe.{Recipe, Coded, Copy, Opaque, Tiles, Layers, grid_form, iovl_form}
 use Rattle.pictures.specs.Scene.{Picture, Scene}
 use Rattle.rules.specs.Joined.{location_of, targets_of, boxes_of, row_of, item_at}
 use Rattle.rules.specs.Bytes as Bytes

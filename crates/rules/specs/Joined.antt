@@ -3,7 +3,7 @@
 --   property_at f k         the property box with index k; nothing for index 0
 --   boxes_of f id           the property boxes that it is associated with, in order;   types_of    their types, 0 for index 0
 --   row_of id items         its row in table order; the number of items where it is not listed
-use Rattle.std.specs.Prelude.{ℕ, suc, ◌-◌, List, [], ◌∷◌, map, Bool, false, get_or, eqb}
+use Rattle.std.specs.Prelude.{ℕ, suc, ◌-◌, List, [], ◌∷◌, map, false, get_or, eqb}
 use Rattle.fields.specs.Choice.{pick}
 use Rattle.boxes.specs.Box.{kind_of}
 use Rattle.contents.specs.Iinf.{Item}

@@ -9,7 +9,6 @@
 use Rattle.std.specs.Prelude.{ℕ, zero, suc, ◌≤◌, ◌≡◌, List, [], ◌∷◌, true, false, ◌⊎◌}
 use Rattle.boxes.specs.Answer.{ok, refuse}
 use Rattle.contents.specs.Iloc.{Extent}
-use Rattle.contents.specs.Iref.{Reference}
 use Rattle.contents.specs.File.{File}
 use Rattle.rules.specs.Joined.{location_of}
 use Rattle.rules.specs.Bytes.{named, made_of_items, length_of}

@@ -10,7 +10,7 @@ use Rattle.fields.specs.Choice.{pick}
 use Rattle.fields.specs.Lists.{member}
 use Rattle.boxes.specs.Answer.{Answer, ok, refuse, check, ◌>>=◌, ◌>>◌}
 use Rattle.boxes.specs.Types.{image}
-use Rattle.contents.specs.Iinf.{Item, ids_of}
+use Rattle.contents.specs.Iinf.{ids_of}
 use Rattle.contents.specs.File.{File, read_file}
 use Rattle.rules.specs.Joined.{row_of, item_at}
 use Rattle.rules.specs.Rules.{judged}

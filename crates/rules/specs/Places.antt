@@ -3,11 +3,11 @@
 --   places_in total head       those of a head; what they are for a head without `meta` does not matter
 --   property_offset pl f k     where the property with index k begins; 0 for index 0
 --   file_offset pl l e         where an extent begins, counted from the file's start
-use Rattle.std.specs.Prelude.{ℕ, ◌+◌, ◌-◌, List, [], ◌∷◌, length, get_or, take, drop, eqb}
+use Rattle.std.specs.Prelude.{ℕ, ◌+◌, ◌-◌, List, [], length, get_or, take, drop, eqb}
 use Rattle.fields.specs.Choice.{pick}
 use Rattle.boxes.specs.Answer.{Answer, ok, refuse}
 use Rattle.boxes.specs.Types.{iprp, idat}
-use Rattle.boxes.specs.Box.{head_of, body_of, flat, Cut, cut}
+use Rattle.boxes.specs.Box.{head_of, body_of, flat, cut}
 use Rattle.boxes.specs.Children.{of_kind, filled, place_of}
 use Rattle.boxes.specs.Top.{PlacedBox, meta_in}
 use Rattle.contents.specs.Iloc.{Extent, Location}

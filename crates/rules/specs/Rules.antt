@@ -2,9 +2,9 @@
 --   good_primary, .., each a test of one rule on one item;   rule12, .., the refusal by it
 --   in_order rule items    the first refusal, in table order
 --   judged total head f   12; 13, 30, 14 for each item; 15, 29, 16 for each image item; 17 for each item; 18; 19; 20 by rising depth
-use Rattle.std.specs.Prelude.{ℕ, zero, suc, ◌+◌, List, [], ◌∷◌, Bool, true, false, ◌&&◌, ◌||◌, not, length, leb, eqb}
+use Rattle.std.specs.Prelude.{ℕ, zero, suc, ◌+◌, List, [], ◌∷◌, Bool, true, false, ◌&&◌, ◌||◌, not, leb, eqb}
 use Rattle.fields.specs.Choice.{pick}
-use Rattle.boxes.specs.Answer.{Answer, ok, refuse, check, ◌>>=◌, ◌>>◌}
+use Rattle.boxes.specs.Answer.{Answer, ok, check, ◌>>=◌, ◌>>◌}
 use Rattle.boxes.specs.Types.{ispe, hvcc, hvc1, known_property, coded, image}
 use Rattle.boxes.specs.Box.{kind_of}
 use Rattle.contents.specs.Iinf.{Item}
@@ -12,7 +12,7 @@ use Rattle.contents.specs.Ipma.{Association}
 use Rattle.contents.specs.File.{File}
 use Rattle.pictures.specs.Decode.{transform}
 use Rattle.pictures.specs.Recipe.{Recipe}
-use Rattle.pictures.specs.Scene.{Picture, Scene, picture_at, good_sizes}
+use Rattle.pictures.specs.Scene.{Scene, picture_at, good_sizes}
 use Rattle.pictures.specs.Depth.{derives_itself, depth}
 use Rattle.rules.specs.Joined.{location_of, associations_of, property_at, types_of, row_of, item_at}
 use Rattle.rules.specs.Bytes.{good_method, good_lengths, chained, names_past, within}

@@ -4,9 +4,8 @@
 --   words_of total head f     the words of an accepted file; what a call leaves of them is `after`, in Opening.antt
 --   file_words total head f   the same as document 01 alone asks for them, all in file order: what Q-6 rearranges
 --   by_id items               the items in rising ID order, each with its place in `iinf`
-use Rattle.std.specs.Prelude.{ℕ, zero, suc, ◌+◌, ◌*◌, ◌-◌, ◌/◌, ◌%◌, List, [], ◌∷◌, ◌++◌, map, Bool, true, false, length, replicate, drop, leb, eqb}
+use Rattle.std.specs.Prelude.{ℕ, suc, ◌+◌, ◌-◌, ◌/◌, ◌%◌, List, [], ◌∷◌, ◌++◌, map, length, replicate, leb, eqb}
 use Rattle.fields.specs.Choice.{pick}
-use Rattle.boxes.specs.Answer.{Answer, ok, refuse}
 use Rattle.boxes.specs.Types.{image}
 use Rattle.boxes.specs.Box.{kind_of}
 use Rattle.contents.specs.Iinf.{Item}
@@ -14,11 +13,10 @@ use Rattle.contents.specs.Iloc.{Extent, Location}
 use Rattle.contents.specs.Ipma.{Association, IpmaEntry}
 use Rattle.contents.specs.Iref.{Reference}
 use Rattle.contents.specs.File.{File}
-use Rattle.pictures.specs.declared.Size.{Size}
-use Rattle.pictures.specs.Scene.{Picture, Scene, picture_at, output_of}
+use Rattle.pictures.specs.Scene.{Scene, picture_at, output_of}
 use Rattle.pictures.specs.Depth.{depth}
 use Rattle.rules.specs.Joined.{location_of, associations_of, targets_of}
-use Rattle.rules.specs.Places.{Places, places_in, property_offset, file_offset}
+use Rattle.rules.specs.Places.{Places, places_in, file_offset}
 use Rattle.rules.specs.Derivations.{scene_of}
 
 abbrev pub table_words : ℕ

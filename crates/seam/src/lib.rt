@@ -1,4 +1,6 @@
 // Many points of one picture at once, asked of the table of an accepted file (document 02, Q-4).
+#![tactic(auto)]
+
 ghost use Rattle.std.specs.Prelude.{◌≡◌, List, ◌∷◌, map, ◌⊎◌, ℕ, ◌≤◌, length, get_or};
 ghost use Rattle.boxes.specs.Answer.{Answer, ok};
 ghost use Rattle.contents.specs.File.{File};
@@ -21,7 +23,7 @@ use table::{ItemId, ItemRow};
 use traced::Traced;
 
 // A point, and room for its answer.
-#[derive(Drop)]
+#[derive(Clone, Copy)]
 pub struct PointRecord {
     pub x: u32,
     pub y: u32,
@@ -29,7 +31,7 @@ pub struct PointRecord {
 }
 
 // How many records were filled: all of them, or none.
-#[derive(Drop)]
+#[derive(Clone, Copy)]
 pub enum PointsFilled {
     All(u32),
     Refused(Refusal),

@@ -1,1 +1,2 @@
 // The bench sheet: no code. Its starred lines, proved from the definitions (specs/Sheet.antt, proofs/Holds.antt).
+#![tactic(auto)]

@@ -3,10 +3,10 @@ use Prim.Native.Nat.{ℕ, ◌<◌}
 use native.Mathlib.Omega.{arith}
 use mathlib.Core.Path.{◌≡◌, refl, sym, ap, ◌∙◌}
 use mathlib.Core.List.{List}
-use mathlib.Core.Bool.{Bool, true, false, ◌&&◌, not}
+use mathlib.Core.Bool.{Bool, true, false, ◌&&◌}
 use lib.ListN.{length}
 use lib.Dec.{eqb}
-use borrow.Author.Tests.{eq-eqb, ne_eqb, not-true, not-false}
+use borrow.Author.Tests.{eq-eqb, ne_eqb}
 use Rattle.fields.specs.Choice.{pick}
 use Rattle.fields.proofs.TestLaws.{untrue}
 use Rattle.boxes.specs.Answer.{ok, check, ◌>>◌}
@@ -85,16 +85,16 @@ module _ (f : File) (i : Item) where
 -- the item in row r of a table, by what the code reads: k its type, p its protection; x whether it is an image
 module _ {t head : List ℕ} {pl : Places} {f : File} (v : TableOf t head pl f) (r : ℕ) (h : r < length f.items)
     (k : ℕ) (ek : r < 256 → k ≡ record_word t r 1) (x : Bool) (ex : x ≡ image k) where
-  pub row_no_image : not x ≡ true → image (item_at f r).type ≡ false
-  row_no_image y = test_read v r h image k x ek ex ∙ not-true x y
+  pub row_no_image : x ≡ false → image (item_at f r).type ≡ false
+  row_no_image y = test_read v r h image k x ek ex ∙ y
 
-  pub row-image : not x ≡ false → image (item_at f r).type ≡ true
-  row-image y = test_read v r h image k x ek ex ∙ not-false x y
+  pub row-image : x ≡ true → image (item_at f r).type ≡ true
+  row-image y = test_read v r h image k x ek ex ∙ y
 
-  pub row-opaque : not x ≡ true → 0 ≡ fault_of (rule15-29-16 f (item_at f r))
+  pub row-opaque : x ≡ false → 0 ≡ fault_of (rule15-29-16 f (item_at f r))
   row-opaque y = opaque_free f (item_at f r) (row_no_image y)
 
-  module _ (y : not x ≡ false) (g : record_word t r 12 ≡ (item_at f r).protection) (p : ℕ) (ep : r < 256 → p ≡ record_word t r 12) where
+  module _ (y : x ≡ true) (g : record_word t r 12 ≡ (item_at f r).protection) (p : ℕ) (ep : r < 256 → p ≡ record_word t r 12) where
     protection_said : p ≡ (item_at f r).protection
     protection_said = ep (row_small v r h) ∙ g
 

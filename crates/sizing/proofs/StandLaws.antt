@@ -130,7 +130,8 @@ module _ (head t : List ℕ) where
           let free = fault pl f s.view i (s.protection k (omega arith) i) s.told in
           let five = sizes-five f k d in
           let long : length w ≡ length u = ap length q ∙ length-sets u (26 + 16 * k) (sizes_in f k d) in
-          let same : (a : ℕ) → Beside k a → get_or w a 0 ≡ get_or u a 0 = λ a b. ap (λ (x : List ℕ). get_or x a 0) q ∙ sets_beside u k (sizes_in f k d) five a b in
+          let same : (a : ℕ) → Beside k a → get_or w a 0 ≡ get_or u a 0 = λ a b. ap (λ (x : List ℕ). get_or x a 0) q ∙
+          sets_beside u k (sizes_in f k d) five a b in
           record {
             view = view-kept u w k (row_small v k i) long same head pl f s.view;
             protection = λ r a e. row_kept u w k (row_small v k i) long same r 12 (omega arith) ∙ s.protection r (omega arith) e;

@@ -1,4 +1,6 @@
 // Sizes and depth into the table, and refusal 20 over them.
+#![tactic(auto)]
+
 ghost use Rattle.std.specs.Prelude.{◌≡◌, List, [], ◌∷◌, ◌++◌, ℕ, ◌+◌, ◌*◌, ◌≤◌, ◌<◌, true, ◌&&◌, length, get_or, drop, leb};
 ghost use Rattle.std.proofs.lemmas.List.Edits.{sets};
 ghost use Rattle.boxes.specs.Answer.{ok};
@@ -113,11 +115,11 @@ pub fn fill_sizes(head: &[u8], table: &mut [u32], depths: &[u32]) -> Filled
         read_file total head.now ≡ ok f → table.old ≡ raw_of (head_words total f)
         (places_in total head.now) f ++ x → result ≡ told_filled
         (in_order (λ (k : ℕ) (i : Item). rule15-29-16 f i) 0 f.items) }
-    ensures* fact { λ r. ⌜ ((total : ℕ) (f : File) (x : List ℕ) → total < 18446744073709551616 →
+    ensures table_filled { (total : ℕ) (f : File) (x : List ℕ) → total < 18446744073709551616 →
         read_file total head.now ≡ ok f → AllPlaced total head.now f →
         table.old ≡ raw_of (head_words total f) (places_in total head.now) f ++ x →
         ((r : ℕ) → r < length f.items → get_or depths.now r 0 ≡ depth (scene_of total head.now f)
-        r) → r ≡ Filled.All → table.new ≡ file_words total head.now f ++ x) ⌝ }
+        r) → result ≡ Filled.All → table.new ≡ file_words total head.now f ++ x }
     ensures table_unchanged { drop 11280 table.new ≡ drop 11280 table.old }
 {
     if table.len() < Table::WORDS {

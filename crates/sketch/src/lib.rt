@@ -1,4 +1,6 @@
 // The picture of a picture: how an item of an accepted file is put together, from its output image down to the coded items; and the picture of a refusal.
+#![tactic(auto)]
+
 mod stroke;
 mod turns;
 
@@ -15,7 +17,7 @@ use words::PlaceKind;
 
 // How a picture lies: what is seen of it, its pose, whether what is cut away is drawn around it, of how many pictures that lie
 // just so it is the copy, and how many millionths of a pixel a step on the screen is, which is the same for all.
-#[derive(Drop)]
+#[derive(Clone, Copy)]
 struct Lying {
     part: Part,
     pose: Pose,

@@ -1,4 +1,6 @@
 // The sources, asked of the table of an accepted file.
+#![tactic(auto)]
+
 ghost use Rattle.std.specs.Prelude.{◌≡◌, List, ℕ, length};
 ghost use Rattle.contents.specs.File.{File};
 ghost use Rattle.rules.specs.Derivations.{scene_of};

@@ -2,20 +2,20 @@
 use Prim.Native.Nat.{ℕ, ◌≤◌, ◌<◌}
 use native.Mathlib.Omega.{arith}
 use native.Mathlib.Decide.{dec_lt}
-use mathlib.Core.Path.{◌≡◌, refl, sym, ap, ◌∙◌}
+use mathlib.Core.Path.{◌≡◌, sym, ap, ◌∙◌}
 use mathlib.Core.List.{List}
 use lib.ListN.{length}
-use borrow.Author.Tests.{lt-ltb, le-ltb}
-use Rattle.fields.proofs.FieldLaws.{pick_yes, pick_no}
+use borrow.Author.Tests.{le-ltb}
+use Rattle.fields.proofs.FieldLaws.{pick_no}
 use Rattle.table.specs.inner.Clear.{cleared}
-use Rattle.boxes.specs.Answer.{Answer, ok, refuse, ◌>>=◌}
+use Rattle.boxes.specs.Answer.{ok, ◌>>=◌}
 use Rattle.boxes.specs.declared.Refusal.{Refusal}
 use Rattle.contents.specs.File.{File}
 use Rattle.rules.specs.Opening.{opened, after}
 use Rattle.opening.specs.Told.{told_opened}
 use Rattle.opening.specs.declared.Opened.TheVariants as opens
 use Rattle.opening.proofs.FileLaws.{opened-refused}
-use Rattle.bodied.specs.Body.{body_in, opened_for, body, buffer_after, room_left}
+use Rattle.bodied.specs.Body.{body_in, body, buffer_after, room_left}
 use Rattle.bodied.specs.Told.{told_bodied}
 use Rattle.bodied.specs.declared.Bodied.TheVariants as bodied
 use Rattle.bodied.proofs.RoomLaws.{room-opened, table_opened, short-opened, left_table, left-cleared}

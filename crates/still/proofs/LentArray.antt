@@ -1,26 +1,25 @@
 -- A local `[0u32; n]` that is lent whole as a slice, and taken back. It says nothing of the crate. Assumes `Logic`.
 --     Lies zs          the n elements zs lie in the local at b
 --     big              a constant that is written `int_big`, as the length of a slice of such an array is
---     zeros-typed      `[0u32; n]` is of its type
---     zeros-lie        where the local holds it, n elements lie there
+--     zeros_typed      `[0u32; n]` is of its type
+--     zeros_lie        where the local holds it, n elements lie there
 --     lends_local      they are lent as a `&mut [u32]` for κ;      local_back     and come back, at what the slice left
---     shares-local     they are lent as a `&[u32]` for κ, and come back by `lent_back`
---     local-room       the local is room again, whatever lies there
-use mathlib.Core.Path.{◌≡◌, refl, sym, subst}
+--     shares_local     they are lent as a `&[u32]` for κ, and come back by `lent_back`
+--     local_room       the local is room again, whatever lies there
+use mathlib.Core.Path.{refl, sym, subst}
 use Prim.Native.Nat.{ℕ, zero, suc}
 use mathlib.Core.List.{List, [], ◌∷◌}
 use lib.Dec.{T as Holds, lit<}
 use lib.ListN.{length, replicate, length-replicate}
 use seplogic.Ra.Ura.{Ura}
-use seplogic.Ra.TreeShare.{full_share}
+use base.Fraction.{full_share}
 use mir.Syntax.{Width, Lifetime, ty_array, ty_int, w32, int_big}
 use mir.Val.{Val, WT, has_ty, vint, Fits}
-use base.Logic.{SProp, ent, sep, ex, via, guard_i}
-use base.Fml.{Lft, GName, Fml, fat, froom, fdead, flent}
+use base.Logic.{SProp, ent, sep, ex, via, guard_i, snd∗, id⊢}
+use base.Fml.{Lft, GName, Fml, fat, fdead, flent, feq, fhide}
 use prog.Wp.{Env}
 use types.Logic.{Logic, sem}
 use types.Kit.{
-  Given,
   Item,
   ‵,
   raw,
@@ -50,9 +49,9 @@ use types.Kit.{
   done,
 }
 use types.Run.{Opd, forget}
-use types.Share.{arr_parts}
+use types.Share.{arr_parts, parts}
 use types.SemTy.{Arr}
-use denote.Shadow.{shadow}
+use denote.Shadow.{shadow, pure_i}
 use denote.Laws.{Is}
 use denote.Plain.{uint_Lawful, uint_Makes, uint_copy}
 use denote.Builtin.{u32}
@@ -60,9 +59,11 @@ use denote.Steps.{owned}
 use denote.Memory.{mem, part_at, shares}
 use denote.Array.{Array, array_val, each, Array-Lawful, Array-repeat}
 use denote.ArrayMemory.{Array-apart, Array-whole}
-use denote.Ref.{MutBor}
-use denote.Slice.{slice_val, MutSlice, ShrSlice, Room, finally}
-use denote.Lend.{Held, Lent, LentShrs, lends_slice, slice_back, lends_shr_slice}
+use denote.Ref.{Bor, MutBor}
+use denote.Slice.{slice_val, MutSlice, ShrSlice, Room, finally, shr_slice_at, elements_shared}
+use denote.Lend.{Held, Lent, lends_slice, slice_back}
+use denote.Lends.{Lent-map}
+use denote.Copied.{uint_Copied, each_lends}
 use borrow.Table.OneValue.{part_in, part_out}
 use borrow.Rule.Slice.Shared.{parts-cells}
 
@@ -119,16 +120,24 @@ module _ {M : Type 1} {𝓤 : Ura M} (𝓛 : Logic 𝓤) (n b : ℕ) where
         use3 𝓛 (later (‵ ((Arr (mem u32) n).own_at zs b 0))) (slice_back 𝓛 u32 κ γ zs n b 0) $ await ! tt $ fsplit ! $ move ! (1 ∷ []) $
         rewrite ! 0 (λ (F : Fml). ‵ F) (sym (parts-cells u32 full_share zs b 0)) refl $ move ! (1 ∷ 0 ∷ []) $ fjoin ! $ at_once ! $ done !
 
-    abbrev pub SharedOut : Lifetime → GName → ℕ → SProp 𝓤
-    SharedOut ℓ γ k = sep 𝓤 (sem 𝓛 ((ShrSlice ℓ κ u32).own_val (at-list γ zs) (slice_val (b, 0) k ∷ [])))
+    abbrev shared_list : Bor (List ℕ)
+    shared_list = record { ref_ptr = (b, 0); now = zs }
+
+    abbrev pub SharedOut : Lifetime → ℕ → SProp 𝓤
+    SharedOut ℓ k = sep 𝓤 (sem 𝓛 ((ShrSlice ℓ κ u32).own_val shared_list (slice_val (b, 0) k ∷ [])))
         (A.lent κ ((arr_parts (shares u32) k).part full_share zs b 0))
 
-    pub shares_local : (ℓ : Lifetime) → Room u32 n → ent 𝓤 (sem 𝓛 (Lies zs)) (H.⇛ (ex 𝓤 (λ (γ : GName). SharedOut ℓ γ n)))
+    pub shares_local : (ℓ : Lifetime) → Room u32 n → ent 𝓤 (sem 𝓛 (Lies zs)) (H.⇛ (SharedOut ℓ n))
     shares_local ℓ room =
-        qed 𝓛 (‵ (Lies zs) ∷ []) ∵ updating ! $ fsplit ! $ feq_l ! (λ l. feq_i ! ℕ (length zs) (length zs) refl $ fjoin ! $
-        use1 𝓛 (later (some (λ (γ : GName). raw (LentShrs 𝓛 u32 ℓ κ full_share zs b 0 γ))))
-        (lends_shr_slice 𝓛 u32 ℓ κ full_share zs b 0 (subst (Room u32) (sym l) room)) $ await ! tt $ pick ! (λ γ.
-        rewrite ! 0 (λ (k : ℕ). raw (SharedOut ℓ γ k)) l refl $ at_once ! $ show ! (λ (δ : GName). SharedOut ℓ δ n) γ $ done !))
+        let k = length zs in let Row = parts (mem u32) (shares u32) full_share zs b 0 in
+        let Counted = (arr_parts (shares u32) k).part full_share zs b 0 in let Each = elements_shared u32 zs b 0 in
+        qed 𝓛 (‵ (Lies zs) ∷ []) ∵ updating ! $ fsplit ! $ feq_l ! (λ l. feq_i ! ℕ k k refl $ fjoin ! $
+        use1 𝓛 (later (‵ (fhide (Each κ)) ⊛ ‵ (flent κ Counted)))
+        (Lent-map 𝓛 Counted Row Each (snd∗ 𝓤 (sem 𝓛 (feq ℕ k k)) (sem 𝓛 Row))
+        (qed 𝓛 (‵ Row ∷ []) {P = sem 𝓛 Counted} (feq_i ! ℕ k k refl $ done !))
+        (each_lends 𝓛 u32 (uint_Copied 𝓛 w32) full_share zs b 0) κ) $ await ! tt $ split ! $
+        pure_i ! (shr_slice_at u32 shared_list (slice_val (b, 0) k ∷ [])) (tt, (tt, tt)) (refl, subst (Room u32) (sym l) room) $ fjoin ! $
+        use2 𝓛 (raw (SharedOut ℓ k)) (id⊢ 𝓤 _) $ rewrite ! 0 (λ (m : ℕ). raw (SharedOut ℓ m)) l refl $ at_once ! $ done !)
 
   pub local_room : (zs : List ℕ) → ent 𝓤 (sem 𝓛 (Lies zs)) (H.room (ty_array (ty_int w32) n) b 0)
   local_room zs =

@@ -1,32 +1,24 @@
 -- Properties over the table of an accepted file. Assumes nothing.
-use Prim.Native.Nat.{ℕ, suc, ◌-◌, ◌<◌, ◌≤◌}
+use Prim.Native.Nat.{ℕ, ◌-◌, ◌≤◌}
 use native.Mathlib.Omega.{arith}
 use mathlib.Core.Path.{◌≡◌, refl, sym, ap, ◌∙◌, subst}
 use mathlib.Core.List.{List, [], ◌∷◌}
-use mathlib.Core.Bool.{true, false, ◌&&◌}
+use mathlib.Core.Bool.{◌&&◌}
 use mathlib.Core.Logic.{⊎_elim}
-use lib.ListN.{length, get_or, set}
-use lib.Dec.{leb, eqb}
-use borrow.Author.Tests.{lt-ltb, le-ltb, le-leb, lt-leb, leb-true, eq-eqb, eqb-true}
-use Rattle.fields.specs.Lists.{member}
-use Rattle.fields.proofs.FieldLaws.{pick_yes, pick_no, both}
-use Rattle.fields.proofs.TestLaws.{untrue, and_both, or_either}
-use Rattle.table.specs.declared.ItemRow.{ItemRow}
+use lib.ListN.{length, get_or}
+use lib.Dec.{leb}
+use borrow.Author.Tests.{leb-true}
+use Rattle.fields.proofs.TestLaws.{and_both}
 use Rattle.table.specs.declared.PropertyIndex.{PropertyIndex}
 use Rattle.boxes.specs.Answer.{Answer, ok, refuse, check, ◌>>=◌, ◌>>◌}
 use Rattle.boxes.proofs.AnswerLaws.{bind_ok, bind_refuse, then_ok, check-ok, ok_inj}
 use Rattle.boxes.specs.declared.Refusal.{Refusal}
-use Rattle.contents.specs.Iinf.{Item, ids_of}
 use Rattle.contents.specs.File.{File}
-use Rattle.rules.specs.Joined.{associations_of, property_at, row_of, no_item, no_association}
+use Rattle.rules.specs.Joined.{associations_of, property_at, no_association}
 use Rattle.rules.specs.Places.{Places, places_in, property_offset}
 use Rattle.rules.specs.Opening.{opened, listed}
 use Rattle.questions.specs.Questions.{Part, part_of, property_in, property}
-use Rattle.records.specs.declared.FoundRow.{FoundRow}
-use Rattle.records.specs.declared.FoundRow.TheVariants.{At, Nothing}
-use Rattle.views.specs.inner.View.{TableOf, id_of}
-use Rattle.views.specs.inner.Told.{told_row}
-use Rattle.views.proofs.LookupLaws.{found}
+use Rattle.views.specs.inner.View.{TableOf}
 use Rattle.views.specs.Lies.{LiesAt}
 use Rattle.views.proofs.TableLaws.{property-none}
 use Rattle.opening.specs.Told.{told_opened}
@@ -124,7 +116,8 @@ module _ (total : ℕ) (head t : List ℕ) (id k : ℕ) where
       never a = let z : ◌≡◌ {A = ℕ} 0 1 = cc in absurd (omega arith)
 
   -- which property is asked for
-  pub asked_off : (y : Refusal) → told_opened (opened (length t) total head) ≡ opens.Refused y → asked.Refused y ≡ told_asked (index_of (length t) total head id k)
+  pub asked_off : (y : Refusal) → told_opened (opened (length t) total head) ≡ opens.Refused y →
+      asked.Refused y ≡ told_asked (index_of (length t) total head id k)
   unfolding index_of ◌>>=◌ told_asked
   asked_off y e = rw (opened-refused _ y e)
 

@@ -13,7 +13,7 @@ use Rattle.questions.specs.Questions.{verdict_in, verdict, size_in, size}
 use Rattle.rules.proofs.RuleLaws.{judged-each, accepted-both}
 use Rattle.rules.proofs.SceneLaws.{accepted_scene}
 use Rattle.records.specs.inner.Named.{NamedIn}
-use Rattle.derived.specs.inner.Told.{Resolved, Followed}
+use Rattle.derived.specs.inner.Told.{Resolved}
 use Rattle.tracing.specs.inner.Told.{Shown}
 use Rattle.opening.specs.Told.{told_opened}
 use Rattle.opening.specs.declared.Opened.TheVariants as opens

@@ -1,6 +1,8 @@
 // The public questions. Each call reads the file afresh; a table that was lent is the file's afterwards, or all 0 where
 // the file is refused. Each is thin: the file is opened (crate `opening`), then its table is asked (`asked`, `traced`,
 // `seam`, `sourced`, `facing`, `bodied`).
+#![tactic(auto)]
+
 ghost use Rattle.std.specs.Prelude.{◌≡◌, ◌⊎◌, List, ℕ, ◌≤◌, ◌<◌, length};
 ghost use Rattle.rules.specs.Opening.{after, file_after};
 ghost use Rattle.bodied.specs.Body.{room_left};

@@ -8,13 +8,13 @@ use borrow.Author.Tests.{ne_eqb, leb-true}
 use lib.Dec.{leb}
 use Rattle.fields.specs.Choice.{pick}
 use Rattle.fields.proofs.TestLaws.{and_both}
-use Rattle.boxes.specs.Answer.{ok, refuse}
+use Rattle.boxes.specs.Answer.{ok}
 use Rattle.boxes.proofs.AnswerLaws.{bind_ok, then_ok, check-ok, ok_inj}
 use Rattle.boxes.specs.declared.Refusal.{Refusal}
 use Rattle.table.specs.declared.PropertyIndex.{PropertyIndex}
 use Rattle.contents.specs.File.{File, read_file}
 use Rattle.rules.specs.Joined.{associations_of, property_at}
-use Rattle.rules.specs.Places.{Places, places_in, property_offset}
+use Rattle.rules.specs.Places.{places_in, property_offset}
 use Rattle.rules.specs.Derivations.{scene_of}
 use Rattle.rules.specs.Words.{words_with, words_of}
 use Rattle.rules.specs.Opening.{opened, after}

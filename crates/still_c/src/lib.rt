@@ -1,4 +1,6 @@
 // The questions for C. `out` gets eight numbers (crate `out`).
+#![tactic(auto)]
+
 ghost use Rattle.std.specs.Prelude.{◌≡◌, List, ℕ, ◌<◌, length};
 ghost use Rattle.rules.specs.Opening.{after};
 ghost use Rattle.questions.specs.Questions as Q;

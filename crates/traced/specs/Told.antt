@@ -3,7 +3,6 @@
 --   told_traced          the code's value for an answer
 use Rattle.std.specs.Prelude.{ℕ, Bool, true, false}
 use Rattle.boxes.specs.Answer.{Answer, ok, refuse}
-use Rattle.pictures.specs.declared.Point.{Point}
 use Rattle.pictures.specs.Trace as Trace
 use Rattle.questions.specs.Questions as Q
 use Rattle.traced.specs.declared.Traced.{Traced}

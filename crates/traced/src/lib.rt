@@ -1,4 +1,6 @@
 // The trace, asked of the table of an accepted file.
+#![tactic(auto)]
+
 ghost use Rattle.std.specs.Prelude.{◌≡◌, List, ℕ, ◌<◌, length};
 ghost use Rattle.boxes.specs.Answer.{ok};
 ghost use Rattle.contents.specs.File.{File};
@@ -17,7 +19,7 @@ use pictures::Point;
 use table::{ItemId, ItemRow};
 use tracing::End;
 
-#[derive(Drop)]
+#[derive(Clone, Copy)]
 pub enum Traced {
     Pixel {
         item: ItemId,

@@ -7,7 +7,7 @@ use Rattle.pictures.specs.declared.Size.{Size}
 use Rattle.pictures.specs.declared.Point.{Point}
 use Rattle.pictures.specs.declared.Turn.{Turn}
 use Rattle.pictures.specs.declared.Turn.TheVariants.{Stay, Left, Half, Right, FlipX, FlipY, Crop, Misfit}
-use Rattle.pictures.specs.Turn.{point, size_after, back, Inside, Fits}
+use Rattle.pictures.specs.Turn.{size_after, back, Inside, Fits}
 use Rattle.tracing.specs.declared.Coordinate.{Coordinate}
 use Rattle.tracing.specs.declared.Origin.{Origin}
 use Rattle.tracing.specs.inner.Origins.{coordinate, origin, moved_by, of_point, coordinate_at, origin_at}

@@ -1,5 +1,30 @@
 -- Copies and grids: what lies beneath a point of one. Assumes nothing.
-use Rattle.std.proofs.Common.{◌≡◌, ℕ, ◌+◌, ◌*◌, ◌/◌, ◌%◌, ◌<◌, Bool, true, false, eqb, List, length, get_or, sym, refl, ap, ◌∙◌, subst, ⊎_elim, mul-le-mul_right, div-le_self, arith, eq-eqb}
+use Rattle.std.proofs.Common.{
+  ◌≡◌,
+  ℕ,
+  ◌+◌,
+  ◌*◌,
+  ◌/◌,
+  ◌%◌,
+  ◌<◌,
+  Bool,
+  true,
+  false,
+  eqb,
+  List,
+  length,
+  get_or,
+  sym,
+  refl,
+  ap,
+  ◌∙◌,
+  subst,
+  ⊎_elim,
+  mul-le-mul_right,
+  div-le_self,
+  arith,
+  eq-eqb,
+}
 use Rattle.fields.specs.Choice.{pick}
 use Rattle.fields.proofs.FieldLaws.{pick_yes, pick_no}
 use Rattle.fields.proofs.TestLaws.{and_both}

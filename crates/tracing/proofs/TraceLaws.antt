@@ -133,7 +133,8 @@ module _ {t rows head : List ℕ} {total : ℕ} {f : File} (v : Shown t rows hea
             ap (λ (t : Traced). told_end t) (traced-input undo_turns s n r p (d - 1) j.0 a beneath))
 
     -- traced from the output pixel p: z is the size that the table has, a the point that the transforms lead back to
-    module _ (d n : ℕ) (p : Point) (l : Inside (output_of q) p) (z : Size) (ez : (s : Scene) → SizesAre t s → r < length s → z ≡ (picture_at s r).declared) where
+    module _ (d n : ℕ) (p : Point) (l : Inside (output_of q) p) (z : Size)
+        (ez : (s : Scene) → SizesAre t s → r < length s → z ≡ (picture_at s r).declared) where
       declared-is : z ≡ q.declared
       declared-is = ez s v.sizes (omega (arith, scene_many total head f))
 

@@ -1,6 +1,33 @@
 -- Undoing an item's transforms, box by box. Assumes nothing.
 --   LeadsBack ts s p r    undoing ts from a pixel p of the output leads to r
-use Rattle.std.proofs.Common.{◌≡◌, ℕ, zero, suc, ◌+◌, ◌<◌, ◌≤◌, true, false, List, [], ◌∷◌, map, length, get_or, drop, sym, refl, ap, ◌∙◌, subst, arith, length-drop, drop_of_length-le, get_or-drop, drop-drop}
+use Rattle.std.proofs.Common.{
+  ◌≡◌,
+  ℕ,
+  zero,
+  suc,
+  ◌+◌,
+  ◌<◌,
+  ◌≤◌,
+  true,
+  false,
+  List,
+  [],
+  ◌∷◌,
+  map,
+  length,
+  get_or,
+  drop,
+  sym,
+  refl,
+  ap,
+  ◌∙◌,
+  subst,
+  arith,
+  length-drop,
+  drop_of_length-le,
+  get_or-drop,
+  drop-drop,
+}
 use Rattle.fields.proofs.FieldLaws.{pick_yes, pick_no, both}
 use Rattle.boxes.specs.Box.{kind_of, body_of}
 use Rattle.contents.specs.File.{File}

@@ -1,4 +1,6 @@
 // Traces: from an output pixel of a picture to one coded pixel or a fill.
+#![tactic(auto)]
+
 ghost use Rattle.std.specs.Prelude.{◌≡◌, ℕ, ◌+◌, ◌-◌, ◌*◌, ◌^◌, ◌<◌, ◌≤◌, true, false, ◌⊎◌, List, length, take, drop, nat_lt, slice_index};
 ghost use Rattle.fields.specs.Field.{be_at};
 ghost use Rattle.boxes.specs.Answer.{ok};
@@ -55,7 +57,7 @@ fn next_transform(table: &[u32], row: ItemRow, j: usize) -> usize
 }
 
 // A coordinate of the point that a pixel comes from: the pixel's x, or its y where `tall`, on from a number, or back from it.
-#[derive(Drop)]
+#[derive(Clone, Copy)]
 struct Coordinate {
     from: u32,
     back: bool,
@@ -63,7 +65,7 @@ struct Coordinate {
 }
 
 // Where the pixels of a picture come from, both coordinates.
-#[derive(Drop)]
+#[derive(Clone, Copy)]
 struct Origin {
     x: Coordinate,
     y: Coordinate,

@@ -15,7 +15,7 @@ use Rattle.pictures.specs.declared.Size.{Size}
 use Rattle.pictures.specs.declared.Turn.{Turn}
 use Rattle.pictures.specs.declared.Turn.TheVariants.{Stay, Left, Half, Right, FlipX, FlipY, Crop, Misfit}
 use Rattle.pictures.specs.Turn.{size_after, Fits, AllFit}
-use Rattle.pictures.specs.Decode.{transform, turn_of, turns_of}
+use Rattle.pictures.specs.Decode.{transform, turns_of}
 use Rattle.pictures.specs.inner.Told.{LongAsAsked, turn_by}
 use Rattle.rules.specs.Joined.{associations_of, boxes_of, types_of}
 use Rattle.rules.specs.Places.{Places}

@@ -1,4 +1,6 @@
 // What an item's transforms, one after the other, do to how it is drawn.
+#![tactic(auto)]
+
 ghost use Rattle.std.specs.Prelude.{◌≡◌, [], ◌+◌, ◌≤◌, ◌<◌, length, get_or};
 ghost use Rattle.contents.specs.File.{File};
 ghost use Rattle.pictures.specs.Turn.{point, Inside, AllFit, size_through};

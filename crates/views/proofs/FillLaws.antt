@@ -55,7 +55,8 @@ module _ (f : File) (s : Scene) where
   to_length (suc k) q [] = refl
   to_length (suc k) q (i ∷ is) = rw (length-append, item-length f s q i, to_length k (suc q) is) (omega arith)
 
-  to_word : (k q : ℕ) (is : List Item) (r m : ℕ) → r < length is → m < 10 → get_or (records_to k q is) (16 * r + m) 0 ≡ get_or (row_words f (get_or is r no_item)) m 0
+  to_word : (k q : ℕ) (is : List Item) (r m : ℕ) → r < length is → m < 10 →
+      get_or (records_to k q is) (16 * r + m) 0 ≡ get_or (row_words f (get_or is r no_item)) m 0
   unfolding records_to
   to_word zero q is r m h l = join-get_or (row_words f) 16 (row-length f) no_item is r m h (omega arith)
   to_word (suc k) q [] r m h l = absurd (not-suc-le-zero h)
@@ -71,7 +72,8 @@ module _ (f : File) (s : Scene) where
   to_all q [] = refl
   to_all q (i ∷ is) = rw (to_all (suc q) is)
 
-  to_next : (k q : ℕ) (is : List Item) → k < length is → sets (records_to k q is) (16 * k + 10) (size_words s (q + k) (get_or is k no_item)) ≡ records_to (suc k) q is
+  to_next : (k q : ℕ) (is : List Item) → k < length is →
+      sets (records_to k q is) (16 * k + 10) (size_words s (q + k) (get_or is k no_item)) ≡ records_to (suc k) q is
   unfolding records_to join_all
   to_next k q [] h = absurd (not-suc-le-zero h)
   to_next zero q (i ∷ is) h =

@@ -78,7 +78,8 @@ module _ {A B : Type 0} (key : A → ℕ) (of : A → B) (at : List A → ℕ �
           (first_word es x (n + N (of a)) (pre ++ W (of a)) i (rw (length-append, mul-add) (omega (arith, sized (of a)))))
         where
           by : (t : Bool) → eqb (key a) x ≡ t
-              → (i < length (W (at es x)) → get_or ((pre ++ W (of a)) ++ joined es) (w * first_in x (n + N (of a)) (groups es) + i) 0 ≡ get_or (W (at es x)) i 0)
+              → (i < length (W (at es x)) → get_or ((pre ++ W (of a)) ++ joined es)
+              (w * first_in x (n + N (of a)) (groups es) + i) 0 ≡ get_or (W (at es x)) i 0)
               → get_or (pre ++ (W (of a) ++ joined es)) (w * first_in x n (groups (a ∷ es)) + i) 0 ≡ get_or (W (at (a ∷ es) x)) i 0
           by true e k =
               let m : i < length (W (of a)) = subst (λ (b : B). i < length (W b)) (at-yes a es x e) h in

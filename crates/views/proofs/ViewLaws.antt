@@ -8,13 +8,11 @@ use mathlib.Core.Bool.{Bool, true, false}
 use lib.ListN.{length, get_or, take, length-append, get_or-append}
 use lib.Seq.{get_or-take}
 use lib.Dec.{eqb}
-use borrow.Author.Tests.{eqb-true, leb-true, le-leb, ne_eqb}
+use borrow.Author.Tests.{eqb-true, le-leb, ne_eqb}
 use Rattle.fields.specs.Choice.{pick}
 use Rattle.fields.proofs.FieldLaws.{pick_yes, both}
-use Rattle.fields.proofs.TestLaws.{and_both}
 use Rattle.boxes.specs.Answer.{ok}
 use Rattle.boxes.specs.Types.{image}
-use Rattle.boxes.proofs.AnswerLaws.{then_ok, check-ok}
 use Rattle.contents.specs.Iinf.{Item, ids_of}
 use Rattle.contents.specs.Iloc.{Extent, Location}
 use Rattle.contents.specs.File.{File, read_file}
@@ -28,7 +26,19 @@ use Rattle.rules.specs.Places.{Places, places_in, property_offset, file_offset}
 use Rattle.rules.specs.Opening.{accepted}
 use Rattle.rules.specs.Words.{head_words, extent_words, size_words, item_words, records_from, words_with, file_words}
 use Rattle.rules.proofs.RuleLaws.{judged-each, accepted-both}
-use Rattle.records.specs.inner.Raw.{Bounded, named_words, derived_words, place_words, record_of, capped, extent_row, extent_rows, association_rows, target_rows, raw_of}
+use Rattle.records.specs.inner.Raw.{
+  Bounded,
+  named_words,
+  derived_words,
+  place_words,
+  record_of,
+  capped,
+  extent_row,
+  extent_rows,
+  association_rows,
+  target_rows,
+  raw_of,
+}
 use Rattle.records.specs.inner.Rows.{Distinct}
 use Rattle.records.proofs.JoinLaws.{join-get_or}
 use Rattle.records.proofs.RawLaws.{row_words, row-length, records_in, records_joined, records_length, raw_record}

@@ -157,7 +157,8 @@ module _ (total : ℕ) (head : List ℕ) (pl : Places) (f : File) (g : Location 
         ∙ ap (λ (w : List ℕ). get_or w k 0) (spelled r j h l)
 
     offset_at : (r j : ℕ) → r < length f.items → j < length (location_of f (id_of f r)).extents
-        → wide t (9232 + 4 * (record_word t r 7 + j)) ≡ capped (file_offset pl (location_of f (id_of f r)) (get_or (location_of f (id_of f r)).extents j no_extent))
+        → wide t (9232 + 4 * (record_word t r 7 + j)) ≡ capped
+        (file_offset pl (location_of f (id_of f r)) (get_or (location_of f (id_of f r)).extents j no_extent))
     unfolding extent_row
     offset_at r j h l =
         let c = 9232 + 4 * (record_word t r 7 + j) in

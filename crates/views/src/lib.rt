@@ -1,4 +1,6 @@
 // A table that was read, seen item by item. Nothing here can be asked for what is not there: what is past an end reads as 0 or nothing.
+#![tactic(auto)]
+
 ghost use Rattle.std.specs.Prelude.{◌≡◌, List, [], ◌++◌, ℕ, ◌+◌, ◌*◌, ◌%◌, ◌≤◌, ◌<◌, length, get_or, take, drop};
 ghost use Rattle.boxes.specs.Types.{coded, derived, image};
 ghost use Rattle.boxes.specs.Box.{kind_of, body_of};

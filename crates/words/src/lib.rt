@@ -1,5 +1,7 @@
 // What each refusal says, in words, and each orientation. A refusal's sentence is a subject, which the place tells, and
 // the words: `iloc` ends inside one of its fields, item 5 is made from itself.
+#![tactic(auto)]
+
 mod numbers;
 mod orientation;
 

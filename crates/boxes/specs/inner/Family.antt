@@ -2,9 +2,8 @@
 --   family       the seven types that document 01 names below `meta`
 --   known k      k is one of them;   family_place k    its number among them, or 7
 --   told_meta, told_walk, spots_of    the code's values for each answer of `meta_in` and `children`
-use Rattle.std.specs.Prelude.{ℕ, suc, ◌+◌, List, [], ◌∷◌, map, Bool, length, replicate, eqb}
+use Rattle.std.specs.Prelude.{ℕ, suc, ◌+◌, List, [], ◌∷◌, map, length, replicate, eqb}
 use Rattle.fields.specs.Choice.{pick}
-use Rattle.fields.specs.Lists.{member}
 use Rattle.boxes.specs.Answer.{Answer, ok, refuse}
 pub use Rattle.boxes.specs.Types.{family, known}
 use Rattle.boxes.specs.Box.{head_of}

@@ -4,7 +4,7 @@
 --   span_of first last c side   what of a side that begins at c is seen from a first to a last pixel
 --   seen_in part c s            what of an input of size s at the corner c is seen in a part of its canvas
 --   seen_of part z around c s   the same; if nothing is and what is cut away is drawn too, what lies on a canvas of size z
-use Rattle.std.specs.Prelude.{ℕ, ◌+◌, ◌*◌, ◌-◌, ◌/◌, ◌%◌, min, Bool, true, false, ltb, leb, eqb}
+use Rattle.std.specs.Prelude.{ℕ, ◌+◌, ◌*◌, ◌-◌, ◌/◌, ◌%◌, min, Bool, ltb, leb, eqb}
 use Rattle.fields.specs.Choice.{pick}
 use Rattle.pictures.specs.declared.Size.{Size}
 use Rattle.pictures.specs.Signed.{Signed, plus, minus}

@@ -4,7 +4,8 @@
 --   is_joined l, Readable ..    a body that is not one part of the file's own bytes, and that it can be read all the same
 --   HasBody, FrontIs, grid_in, OverlayIs    what the code says of a body, of its first bytes, of a grid's and an overlay's
 --   body_or m             a body, nothing where there is none
---   derivation_for ..     the recipe of a derived item by its number of inputs and its body, whatever its inputs are: what rule 17 asks behind the test of these
+--   derivation_for ..     the recipe of a derived item by its number of inputs and its body, whatever its inputs are:
+-- what rule 17 asks behind the test of these
 --   told_derivation m     a derivation's recipe without an overlay's offsets, which stay in the body
 use Rattle.std.specs.Prelude.{ℕ, ◌+◌, ◌≤◌, ◌<◌, ◌≡◌, List, [], Bool, true, false, ◌&&◌, not, length, get_or, eqb}
 use Rattle.fields.specs.Choice.{pick}
@@ -15,7 +16,7 @@ use Rattle.contents.specs.Iloc.{Location}
 use Rattle.contents.specs.Iref.{targets_in}
 use Rattle.contents.specs.File.{File, read_file}
 use Rattle.forms.specs.Form.{whole}
-use Rattle.pictures.specs.Recipe.{Recipe, Coded, Copy, Opaque, Tiles, Layers, Grid, Overlay, grid_form, iovl_form}
+use Rattle.pictures.specs.Recipe.{Recipe, Coded, Copy, Opaque, Tiles, Layers, Grid, grid_form, iovl_form}
 use Rattle.pictures.specs.inner.Told.{told_overlay}
 use Rattle.pictures.specs.declared.OverlayRead.{OverlayRead}
 use Rattle.pictures.specs.declared.OverlayRead.TheVariants as overlay

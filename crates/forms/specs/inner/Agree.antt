@@ -64,7 +64,8 @@ field-sound true n p s q v t e =
     )
 field-sound false n p s q v t e = never 8 p v t e
 
-pub field-complete : (n p : ℕ) (u : List ℕ) (v : ℕ) (t : List ℕ) → (length u ≡ n) × (be_at u 0 n ≡ v) → field_by (leb n (length (u ++ t))) n p (u ++ t) ≡ got v t
+pub field-complete : (n p : ℕ) (u : List ℕ) (v : ℕ) (t : List ℕ) → (length u ≡ n) × (be_at u 0 n ≡ v) →
+    field_by (leb n (length (u ++ t))) n p (u ++ t) ≡ got v t
 unfolding field_by
 field-complete n p u v t h =
     rw (le-leb n (length (u ++ t)) (rw length-append (omega arith)), drop_at u t n h.0, be_front u t 0 n (omega arith), h.1)

@@ -8,9 +8,22 @@
 --   RunsTo, RunsAre          what stands for each extent: the run from its first byte on
 --   bytes_of t v s r p n      the n bytes of row r from p on, s being the head
 --   Sourced t v n            what 13, 30 and 14 make sure of, of n rows
-use Rattle.std.specs.Prelude.{ℕ, zero, suc, ◌+◌, ◌-◌, ◌≤◌, ◌<◌, ◌≡◌, List, [], ◌∷◌, ◌++◌, Bool, true, false, get_or, ltb}
+use Rattle.std.specs.Prelude.{ℕ, zero, suc, ◌+◌, ◌-◌, ◌≤◌, ◌<◌, ◌≡◌, List, [], ◌∷◌, ◌++◌, Bool, true, get_or, ltb}
 use Rattle.fields.specs.Choice.{pick}
-use Rattle.linking.specs.inner.Links.{first_extent, extents, offset_at, size_at, made_of_items, named_row, named_by, chained, level, sum_from, length_sum, LinksIn}
+use Rattle.linking.specs.inner.Links.{
+  first_extent,
+  extents,
+  offset_at,
+  size_at,
+  made_of_items,
+  named_row,
+  named_by,
+  chained,
+  level,
+  sum_from,
+  length_sum,
+  LinksIn,
+}
 use Rattle.joining.specs.declared.Holder.{Holder}
 use Rattle.joining.specs.declared.Holder.TheVariants.{Extent, Nowhere}
 use Rattle.joining.specs.declared.Piece.{Piece}

@@ -5,7 +5,34 @@
 --   lead-form ids w ls   the same up to its extents;   new-form, rest-form    its parts behind the ID
 --   extents_by w s at k   the k extents from `at` on;   row_from start e    the table words of one that counts from `start`
 --   Located t n used ls  the table t of n items says which of them have an entry in ls, which has so many extents
-use Rattle.std.specs.Prelude.{ℕ, zero, suc, ◌+◌, ◌*◌, ◌/◌, ◌%◌, ◌<◌, ◌≤◌, ◌≡◌, List, [], ◌∷◌, ◌++◌, map, Bool, true, false, ◌||◌, not, ◌⊎◌, length, get_or, drop, leb, eqb}
+use Rattle.std.specs.Prelude.{
+  ℕ,
+  zero,
+  suc,
+  ◌+◌,
+  ◌*◌,
+  ◌/◌,
+  ◌%◌,
+  ◌<◌,
+  ◌≤◌,
+  ◌≡◌,
+  List,
+  [],
+  ◌∷◌,
+  ◌++◌,
+  map,
+  Bool,
+  true,
+  false,
+  ◌||◌,
+  not,
+  ◌⊎◌,
+  length,
+  get_or,
+  drop,
+  leb,
+  eqb,
+}
 use Rattle.std.proofs.lemmas.List.Edits.{sets}
 use Rattle.fields.specs.Choice.{pick}
 use Rattle.fields.specs.Field.{be_at}

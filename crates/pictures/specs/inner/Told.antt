@@ -2,7 +2,7 @@
 --   LongAsAsked k b         the content b has the length that the transform type k asks for
 --   turn_by s k b      turnOf of a box of type k with content b
 --   told_step          the number that a step of a crop's edge gives
-use Rattle.std.specs.Prelude.{◌≡◌, ℕ, ◌%◌, Bool, List, length, ◌==◌, ◌≢◌}
+use Rattle.std.specs.Prelude.{◌≡◌, ℕ, ◌%◌, List, length, ◌==◌, ◌≢◌}
 use Rattle.fields.specs.Choice.{pick}
 use Rattle.fields.specs.Field.{be_at}
 use Rattle.boxes.specs.Answer.{Answer, ok, refuse}

@@ -2,16 +2,16 @@
 --   from_references, from_shown, from_locations, from_items, from_handler     from that box on
 --   NamedOf m v      the rows after all stages, m being what reading comes to
 --   read_words        what reading leaves in the table
-use Rattle.std.specs.Prelude.{ℕ, ◌+◌, ◌≡◌, List, [], ◌∷◌, ◌++◌, map, Bool, true, false, ◌⊎◌, length, replicate, drop, leb}
+use Rattle.std.specs.Prelude.{ℕ, ◌+◌, ◌≡◌, List, [], ◌++◌, map, Bool, true, false, ◌⊎◌, length, replicate, drop, leb}
 use Rattle.fields.specs.Choice.{pick}
 use Rattle.boxes.specs.Answer.{Answer, ok, refuse, check, ◌>>=◌, ◌>>◌}
 use Rattle.boxes.specs.Types.{hdlr, pitm, iinf, iloc, iprp, iref, idat, family}
-use Rattle.boxes.specs.Box.{head_of, body_of, Cut, cut}
+use Rattle.boxes.specs.Box.{head_of, body_of, cut}
 use Rattle.boxes.specs.Children.{of_kind, filled, place_of}
 use Rattle.boxes.specs.inner.Where.{where_of}
 use Rattle.boxes.specs.inner.Family.{spot_of}
 use Rattle.boxes.specs.declared.Spot.{Spot}
-use Rattle.forms.specs.Form.{Form, whole, front}
+use Rattle.forms.specs.Form.{whole, front}
 use Rattle.contents.specs.Hdlr.{hdlr_form}
 use Rattle.contents.specs.Pitm.{pitm_form}
 use Rattle.contents.specs.Iinf.{Item, ids_of, items}
@@ -20,7 +20,7 @@ use Rattle.contents.specs.Ipma.{associations_in}
 use Rattle.contents.specs.Iprp.{IprpContent, iprp_content}
 use Rattle.contents.specs.Iref.{IrefContent}
 use Rattle.contents.specs.File.{File, referred, data_of, read_file}
-use Rattle.rules.specs.Places.{Places, first_of, places_at, places_in}
+use Rattle.rules.specs.Places.{first_of, places_at, places_in}
 use Rattle.rules.specs.Words.{table_words, head_words}
 use Rattle.records.specs.inner.Raw.{raw_of}
 use Rattle.records.specs.inner.Stage.{Ready}

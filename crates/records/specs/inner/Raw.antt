@@ -4,7 +4,7 @@
 -- record_of i a t l     an item's record: ID, type, hidden; first association and count; first target and count; first
 -- extent, count, method, data reference, 1 if `iloc` has an entry; protection index
 --   raw_of hw pl f        the table of the file f as far as it is read, hw being its first words
-use Rattle.std.specs.Prelude.{ℕ, ◌+◌, ◌≤◌, List, [], ◌∷◌, ◌++◌, map, length, leb}
+use Rattle.std.specs.Prelude.{ℕ, ◌≤◌, List, [], ◌∷◌, ◌++◌, map, length, leb}
 use Rattle.fields.specs.Choice.{pick}
 use Rattle.fields.specs.Lists.{member}
 use Rattle.contents.specs.Iinf.{Item}

@@ -5,7 +5,7 @@
 -- TargetsRowed t v    the same for all of a table that was read;   Ordered t v    v has, from 2,048 on, its rows in rising
 -- ID order;   Rowed t v    both
 --   FoundIs t n id     what a lookup says, whatever order it searches in
-use Rattle.std.specs.Prelude.{ℕ, zero, suc, ◌+◌, ◌*◌, ◌<◌, ◌≤◌, ◌≡◌, List, [], ◌∷◌, ◌++◌, false, get_or}
+use Rattle.std.specs.Prelude.{ℕ, zero, suc, ◌+◌, ◌*◌, ◌<◌, ◌≡◌, List, [], ◌∷◌, ◌++◌, false, get_or}
 use Rattle.fields.specs.Lists.{member}
 use Rattle.records.specs.inner.Keys.{order_of}
 use Rattle.records.specs.declared.FoundRow.{FoundRow}

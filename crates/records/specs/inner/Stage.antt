@@ -6,7 +6,6 @@ use Rattle.std.specs.Prelude.{ℕ, ◌≡◌, List, length, drop}
 use Rattle.contents.specs.Iinf.{Item, ids_of}
 use Rattle.contents.specs.Iloc.{Location}
 use Rattle.contents.specs.Ipma.{IpmaEntry}
-use Rattle.contents.specs.Iprp.{IprpContent}
 use Rattle.contents.specs.Iref.{IrefContent}
 use Rattle.contents.specs.File.{File}
 use Rattle.records.specs.inner.Raw.{unread, Bounded}

@@ -13,7 +13,7 @@ use Rattle.contents.specs.Iinf.{ids_of}
 use Rattle.contents.specs.Ipco.{GoodContent}
 use Rattle.contents.specs.Iref.{targets_in}
 use Rattle.contents.specs.File.{File}
-use Rattle.pictures.specs.Scene.{Picture, Scene, picture_at, output_of}
+use Rattle.pictures.specs.Scene.{Scene, picture_at, output_of}
 use Rattle.pictures.specs.Depth.{depth}
 use Rattle.rules.specs.Joined.{item_at, location_of, associations_of, targets_of, links_of, no_extent, no_association}
 use Rattle.rules.specs.Places.{Places, file_offset}

@@ -4,7 +4,7 @@
 --                    refusal's number)
 --   printable b      a byte that shows as one ASCII character, the space among them
 --   text a b c d     four such bytes, as most types are
-use Rattle.std.specs.Prelude.{ℕ, List, [], ◌∷◌, Bool, true, false, ◌&&◌, ltb}
+use Rattle.std.specs.Prelude.{ℕ, List, [], ◌∷◌, Bool, false, ◌&&◌, ltb}
 use Rattle.fields.specs.Choice.{pick}
 use Rattle.fields.specs.Lists.{member}
 use Rattle.words.specs.declared.PlaceKind.{PlaceKind}

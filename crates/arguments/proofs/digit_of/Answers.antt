@@ -1,0 +1,17 @@
+-- `arguments::digit_of` answers `digit_of`. Assumes nothing.
+use borrow.Author.Tests.{lt-ltb, le-ltb}
+use Rattle.fields.specs.Choice.{pick}
+use Rattle.arguments.specs.inner.Number.{digit_of}
+use Rattle.arguments.proofs.digit_of.Goals as goal
+
+pub returns-then-b-lt48 : goal.returns-then-b-lt48
+unfolding digit_of pick
+returns-then-b-lt48 c = simp (lt-ltb _ _ c.if-b-lt48.true)
+
+pub returns-then-b-gt57 : goal.returns-then-b-gt57
+unfolding digit_of pick
+returns-then-b-gt57 c = simp (le-ltb _ _ c.if-b-lt48.false, lt-ltb _ _ c.if-b-gt57.true)
+
+pub returns : goal.returns
+unfolding digit_of pick
+returns c = simp (le-ltb _ _ c.if-b-lt48.false, le-ltb _ _ c.if-b-gt57.false)

@@ -1,0 +1,9 @@
+-- `linking::level_in` meets its contract. Assumes nothing.
+use mathlib.Core.Path.{◌∙◌}
+use Rattle.linking.proofs.ByteLaws.{level-read}
+use Rattle.linking.proofs.level_in.Goals as goal
+
+pub returns : goal.returns
+returns c =
+    λ t v n w h l. level-read t v c.link_of.result c.args.row.0
+    (c.link_of.ensures ∙ h w c.args.row.0 l)

@@ -1,0 +1,8 @@
+-- `linking::size_at` meets its contract. Assumes nothing.
+use Rattle.linking.proofs.ByteLaws.{size-read}
+use Rattle.linking.proofs.size_at.Goals as goal
+
+pub returns : goal.returns
+returns c =
+    size-read c.args.table.now c.args.e c.held.result c.held-2.result
+    c.held.ensures c.held-2.ensures

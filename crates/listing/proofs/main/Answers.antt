@@ -1,0 +1,12 @@
+-- `listing::main` is safe and ends: what was kept lies in the head. Assumes nothing.
+use mathlib.Core.Path.{subst}
+use Rattle.input.specs.inner.Within.{Within}
+use Rattle.listing.proofs.main.Goals as goal
+
+pub slice_bounds-head-end : goal.slice_bounds-head-end
+slice_bounds-head-end c =
+    (subst (Within _) c.in-Is.is c.read_input-got.ensures).0.0
+
+pub slice_bounds-print_listing-end : goal.slice_bounds-print_listing-end
+slice_bounds-print_listing-end c =
+    (subst (Within _) c.in-Is.is c.read_input-got.ensures).0.1

@@ -1,0 +1,27 @@
+-- `locations::read_rest` meets its contract: one test of the length stands for four fields. Assumes nothing.
+use Rattle.locations.proofs.EntryLaws.{method-most, size-most, rest-short, rest-many, rest-is}
+use native.Mathlib.Omega.{arith}
+use Rattle.locations.proofs.read_rest.Goals as goal
+
+pub overflow_add-m : goal.overflow_add-m
+overflow_add-m c = let z = c.requires.1 in omega (arith, method-most _ z.method, size-most _ z.base)
+
+pub overflow_add-m-2 : goal.overflow_add-m-2
+overflow_add-m-2 c = let z = c.requires.1 in omega (arith, method-most _ z.method, size-most _ z.base)
+
+pub returns-then-s-at : goal.returns-then-s-at
+returns-then-s-at c =
+    let a = c.args in
+    rest-short a.w a.used a.place a.s.now a.at c.requires.0 c.if-s-at.true
+
+pub returns-then-used-k-gt512 : goal.returns-then-used-k-gt512
+returns-then-used-k-gt512 c =
+    let a = c.args in
+    rest-many a.w a.used a.place a.s.now a.at c.requires.0 c.if-s-at.false _ c.be16-k.ensures
+    c.if-used-k-gt512.true
+
+pub returns : goal.returns
+returns c =
+    let a = c.args in
+    rest-is a.w a.used a.place a.s.now a.at c.requires.0 c.if-s-at.false _ c.be16-k.ensures _ _ _
+    c.read_method.ensures c.be16.ensures c.be_sized.ensures c.if-used-k-gt512.false

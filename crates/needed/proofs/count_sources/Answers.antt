@@ -1,0 +1,38 @@
+-- `needed::count_sources` meets its contract. The loop's invariant: the sources of the rows passed are counted. Assumes nothing.
+use Prim.Native.Nat.{ℕ, ◌-◌}
+use native.Mathlib.Omega.{arith}
+use mathlib.Core.Path.{◌≡◌, ap, ◌∙◌}
+use lib.ListN.{length}
+use Rattle.needed.specs.inner.Marked.{marked_of}
+use Rattle.needed.proofs.MarkedLaws.{marked-few, count_none, count-take, count_pass}
+use Rattle.needed.proofs.count_sources.Goals.{then-is_source, else-is_source}
+use Rattle.needed.proofs.count_sources.Goals as goal
+
+pub loop-k-init : goal.loop-k-init
+loop-k-init c = let a = c.args in (omega arith, count_none a.table.now a.marks.now)
+
+pub overflow_add-count : goal.overflow_add-count
+overflow_add-count c =
+    let a = c.args in
+    let q = c.loop-k in
+    omega (arith, marked-few a.table.now a.marks.now q.k)
+
+pub loop-k-preserved : goal.loop-k-preserved
+loop-k-preserved c =
+    let a = c.args in
+    let q = c.loop-k in (
+      omega arith,
+      elim c.if-is_source.branch [
+        | then-is_source w ↦ count-take a.table.now a.marks.now q.k c.row_at.result.0 c.is_source.result c.row_at.ensures
+            (omega arith) c.is_source.ensures q.count c.if-is_source.count q.invariant.1 w.if-is_source.true w.count-is
+        | else-is_source w ↦ count_pass a.table.now a.marks.now q.k c.row_at.result.0 c.is_source.result c.row_at.ensures (omega arith)
+            c.is_source.ensures q.count c.if-is_source.count q.invariant.1 w.if-is_source.false w.count-is
+      ],
+    )
+
+pub returns : goal.returns
+returns c =
+    let a = c.args in
+    let q = c.loop-k in
+    let e : q.k ≡ a.n = omega arith in
+    q.invariant.1 ∙ ap (λ (k : ℕ). length (marked_of a.table.now a.marks.now k)) e

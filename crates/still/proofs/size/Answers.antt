@@ -1,0 +1,25 @@
+-- `still::size` meets its contract. Assumes nothing.
+use Rattle.std.proofs.Common.{sym, ◌∙◌}
+use Rattle.opening.proofs.FileLaws.{opened-file, file-view, file-sizes}
+use Rattle.still.proofs.QuestionLaws.{asked_off, asked-on}
+use Rattle.still.proofs.ArrangedLaws.{order_given}
+use Rattle.still.proofs.size.Goals as goal
+use Rattle.still.proofs.size.Goals.{in-Refused, in-Accepted}
+
+pub returns : goal.returns
+returns c =
+    let a = c.args in
+    let o = c.open_rows-o.ensures in
+    let few = c.ranges.total.fits in (
+      elim c.match-o.branch [
+        | in-Refused w ↦ w.answer-is ∙ asked_off a.total a.head.now a.table.now _ (sym o.opened_given.0 ∙ w.in-Refused.is) _
+        | in-Accepted w ↦
+            let k = opened-file _ (sym o.opened_given.0 ∙ w.in-Accepted.is) in
+            w.answer-is ∙ w.size_in-answer.ensures _ _ _ k.0
+            (file-view a.total a.head.now a.table.now few k.0 k.1 _ o.opened_given.1)
+            (file-sizes a.total a.head.now a.table.now few k.0 k.1 _ o.opened_given.1) ∙
+            asked-on a.total a.head.now a.table.now k.0 k.1 _
+      ],
+      c.arrange.ensures a.total a.head.now a.table.now o.opened_given.1
+          (order_given a.total a.head.now a.table.now _ o.opened_given.0 o.resolved),
+    )
