@@ -121,13 +121,13 @@ module _ (head : List ℕ) (total : ℕ) where
         (orientation-told (orientation (length table) total head id) y (sym g.0))
 
     -- the list is as it was
-    pub sources-refused : (id : ℕ) (list List-left : List ℕ) →
-        SourcesGiven head total table id list (listed.Refused y) List-left left →
+    pub sources-refused : (id : ℕ) (list list_left : List ℕ) →
+        SourcesGiven head total table id list (listed.Refused y) list_left left →
         Call head total table (λ f n p. SourcesUnmet (scene_of total head f) f id (length list) n × (p ≡ id)) y.number
-        y.place left × (List-left ≡ list)
+        y.place left × (list_left ≡ list)
     unfolding Q.sources list_after
-    sources-refused id list List-left g = refused-kept table left g.1.1 _ _
-        (λ f n p e. sources-unmet f id (scene_of total head f) (length list) n p e) (λ m. list_after m list) list List-left
+    sources-refused id list list_left g = refused-kept table left g.1.1 _ _
+        (λ f n p e. sources-unmet f id (scene_of total head f) (length list) n p e) (λ m. list_after m list) list list_left
         (λ n p. refl) g.1.0 _ _ (sources-told (Q.sources (length table) total head id (length list)) y (sym g.0))
 
     -- every record is as it was

@@ -113,9 +113,9 @@ module _ (head : List ℕ) (total : ℕ) (table : List ℕ) where
     point_numbers_good id records = lent (λ o. told_points_filled (points_of head total id (length records) o))
         (λ o. numbers_after (points_of head total id (length records) o) (trace_of head total id o) records)
 
-    pub sources-good : (id : ℕ) (list : List ℕ) (r : Listed) (List-left left : List ℕ) → SourcesGiven head total table id list r List-left left
+    pub sources-good : (id : ℕ) (list : List ℕ) (r : Listed) (list_left left : List ℕ) → SourcesGiven head total table id list r list_left left
         → (r ≡ told_listed (sources_in (scene_of total head f) f id (length list))) ×
-        ((List-left ≡ list_after (sources_in (scene_of total head f) f id (length list)) list) ×
+        ((list_left ≡ list_after (sources_in (scene_of total head f) f id (length list)) list) ×
         (left ≡ words_of total head f ++ drop 11280 table))
     unfolding Q.sources ◌>>=◌
     sources-good id list = lent (λ o. told_listed (o >>= (λ f. sources_in (scene_of total head f) f id (length list))))

@@ -46,11 +46,11 @@ module _ (head : List ℕ) (total : ℕ) (table : List ℕ) where
       (rw (g.0, g.1))
 
   -- the numbers with the list that was lent
-  pub sources_decided : (id : ℕ) (list r List-left left : List ℕ) →
-      SourcesGiven head total table id list r List-left left → Decided head total table {B = List ℕ × List ℕ}
+  pub sources_decided : (id : ℕ) (list r list_left left : List ℕ) →
+      SourcesGiven head total table id list r list_left left → Decided head total table {B = List ℕ × List ℕ}
       (λ f. sources_in (scene_of total head f) f id (length list)) (λ m. (out_listed m, list_after m list))
-      (λ f n p. SourcesUnmet (scene_of total head f) f id (length list) n × (p ≡ id)) (r, List-left) left
-  sources_decided id list r List-left left g = sources_decides head total table left g.2 (r, List-left)
+      (λ f n p. SourcesUnmet (scene_of total head f) f id (length list) n × (p ≡ id)) (r, list_left) left
+  sources_decided id list r list_left left g = sources_decides head total table left g.2 (r, list_left)
       (λ m. (out_listed m, list_after m list)) id (length list) (rw (g.0, g.1))
 
   pub property_decided : (id k : ℕ) (r left : List ℕ) → PropertyGiven head total table id k r left →

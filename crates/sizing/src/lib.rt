@@ -243,7 +243,7 @@ fn tiles_fit(
     canvas: Size,
 ) -> bool
     ensures { (total : ℕ) (head : List ℕ) (f : File) →
-        Drawn table.now rows.entry.now head total f → row.0 < length f.items →
+        Drawn table.now rows.now head total f → row.0 < length f.items →
         image (item_at f row.0).type ≡ true → 0 < length (picture_at (scene_of total head f) row.0).inputs →
         result ≡ tiles_fit (scene_of total head f) (picture_at (scene_of total head f) row.0)
         (record { rows = down; columns = across; wide = canvas.wide; high = canvas.high }) }

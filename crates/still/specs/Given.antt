@@ -45,9 +45,9 @@ module _ (left_by : ℕ → List ℕ → List ℕ → List ℕ) (head : List ℕ
   TraceBy id p r left = (r ≡ told_traced (Q.trace (length table) total head id p)) × (left ≡ left_by total head table)
 
   abbrev pub SourcesBy : ℕ → List ℕ → Listed → List ℕ → List ℕ → Type 0
-  SourcesBy id list r List-left left =
+  SourcesBy id list r list_left left =
       (r ≡ told_listed (Q.sources (length table) total head id (length list)))
-      × ((List-left ≡ list_after (Q.sources (length table) total head id (length list)) list) × (left ≡ left_by total head table))
+      × ((list_left ≡ list_after (Q.sources (length table) total head id (length list)) list) × (left ≡ left_by total head table))
 
   abbrev pub OrientationBy : ℕ → Oriented → List ℕ → Type 0
   OrientationBy id r left = (r ≡ told_oriented (orientation (length table) total head id)) × (left ≡ left_by total head table)
