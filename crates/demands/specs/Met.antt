@@ -15,7 +15,7 @@
 -- that of a box that stands in `ipco`, and a tile's number is below the number of inputs. The next laziest is to ask
 -- nothing: "every association" holds of an item that has none, and "every stop" of a path that has none. But one `ispe`
 -- must be there, and the stops are as many as the pictures passed (`Followed`, crates/demands/proofs/Demand3.antt).
--- That both are ruled out is proved: `met-listed`, `there-listed`, `Met-some` (crates/demands/proofs/MetLaws.antt).
+-- That both are ruled out is proved: `met-listed`, `there-listed`, `met_some` (crates/demands/proofs/MetLaws.antt).
 use Rattle.std.specs.Prelude.{ℕ, ◌+◌, ◌*◌, ◌-◌, ◌/◌, ◌≤◌, ◌<◌, ◌≡◌, List, [], ◌∷◌, ◌++◌, map, true, false, length}
 use Rattle.fields.specs.Lists.{All}
 use Rattle.boxes.specs.Types.{ispe, image}

@@ -43,7 +43,7 @@ pub trace-at_hand : (head : List ℕ) (total : ℕ) (t rows : List ℕ) (h : AtH
 unfolding trace ◌>>=◌
 trace-at_hand head total t rows h id p = rw h.opens
 
--- answered_to: none, one more, and all
+-- answered_to: none, as many, one more, and all
 module _ {A : Type 0} (by : A → A) where
   pub none-answered : (rs : List A) → answered_to by 0 rs ≡ rs
   unfolding answered_to

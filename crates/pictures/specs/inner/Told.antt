@@ -1,6 +1,6 @@
 -- The code's values for the answers about crops and bodies.
 --   LongAsAsked k b         the content b has the length that the transform type k asks for
---   turn_by s k b      turnOf of a box of type k with content b
+--   turn_by s k b      turn_of of a box of type k with content b
 --   told_step          the number that a step of a crop's edge gives
 use Rattle.std.specs.Prelude.{◌≡◌, ℕ, ◌%◌, List, length, ◌==◌, ◌≢◌}
 use Rattle.fields.specs.Choice.{pick}
