@@ -2,7 +2,6 @@
 ghost use Rattle.std.specs.Prelude.{◌≡◌, length};
 
 use crate::{print_more, print_refusal};
-use bodied::Bodied;
 use table::ItemId;
 
 // A buffer in which something is left from before.
@@ -13,10 +12,8 @@ fn used_buffer() -> [u8; 20000]
 }
 
 fn print_bytes(body: &[u8]) {
-    let mut i: usize = 0;
-    while i < body.len() {
-        io::print_hex(1, fields::be8(body, i) as u64, 2);
-        i += 1;
+    for b in body {
+        io::print_hex(1, *b as u64, 2);
     }
 }
 
@@ -30,10 +27,9 @@ fn print_joined(body: &[u8]) {
 }
 
 fn print_bodied(head: &[u8], total: u64, table: &mut [u32], id: u32, body: &mut [u8]) {
-    let b = still::body(head, total, table, ItemId(id), &mut *body);
-    match b {
-        Bodied::Refused(f) => print_refusal(f),
-        Bodied::Is(n) => print_joined(views::part(&*body, 0, n)),
+    match still::body(head, total, table, ItemId(id), &mut *body) {
+        Ok(n) => print_joined(views::part(&*body, 0, n)),
+        Err(f) => print_refusal(f),
     }
 }
 

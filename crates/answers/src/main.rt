@@ -11,11 +11,9 @@ mod points;
 
 ghost use Rattle.std.specs.Prelude.{◌≡◌, ◌<◌, length};
 
-use asked::{FileVerdict, Sized};
 use boxes::Refusal;
-use facing::{Oriented, Transform, TransformList};
+use facing::{Transform, TransformList};
 use pictures::Point;
-use sourced::Listed;
 use table::ItemId;
 use traced::Traced;
 
@@ -33,28 +31,26 @@ pub fn print_refusal(f: Refusal) {
 
 fn print_verdict(head: &[u8], total: u64, table: &mut [u32]) {
     io::write_all(1, b"verdict\t\t");
-    let v = still::verdict(head, total, table);
-    match v {
-        FileVerdict::Accepted { items, primary } => {
-            io::print_decimal(1, items as u64);
-            print_more(primary.0 as u64);
+    match still::verdict(head, total, table) {
+        Ok(v) => {
+            io::print_decimal(1, v.items as u64);
+            print_more(v.primary.0 as u64);
             io::write_all(1, b"\n");
         }
-        FileVerdict::Refused(f) => print_refusal(f),
+        Err(f) => print_refusal(f),
     }
 }
 
 fn print_digest(h: [u32; 8]) {
-    let mut i: usize = 0;
-    while i < 8 {
-        io::print_hex(1, table::word(&h, i) as u64, 8);
-        i += 1;
+    for word in &h {
+        io::print_hex(1, *word as u64, 8);
     }
 }
 
 fn print_table(head: &[u8], total: u64, table: &mut [u32]) {
     io::write_all(1, b"table\t\t");
-    still::verdict(head, total, table);
+    // The table is what is asked about, of refused files too.
+    let _ = still::verdict(head, total, table);
     print_digest(digest::of_table(&*table));
     io::write_all(1, b"\n");
 }
@@ -63,23 +59,16 @@ fn print_size(head: &[u8], total: u64, table: &mut [u32], id: u32) {
     io::write_all(1, b"size\t");
     io::print_decimal(1, id as u64);
     io::write_all(1, b"\t");
-    let s = still::size(head, total, table, ItemId(id));
-    match s {
-        Sized::Is {
-            wide,
-            high,
-            output_wide,
-            output_high,
-            depth,
-        } => {
-            io::print_decimal(1, wide as u64);
-            print_more(high as u64);
-            print_more(output_wide as u64);
-            print_more(output_high as u64);
-            print_more(depth as u64);
+    match still::size(head, total, table, ItemId(id)) {
+        Ok(s) => {
+            io::print_decimal(1, s.wide as u64);
+            print_more(s.high as u64);
+            print_more(s.output_wide as u64);
+            print_more(s.output_high as u64);
+            print_more(s.depth as u64);
             io::write_all(1, b"\n");
         }
-        Sized::Refused(f) => print_refusal(f),
+        Err(f) => print_refusal(f),
     }
 }
 
@@ -102,11 +91,10 @@ fn print_end(kind: &[u8], item: ItemId, x: u32, y: u32, passed: u32) {
 fn print_trace(head: &[u8], total: u64, table: &mut [u32], id: u32, x: u32, y: u32) {
     io::write_all(1, b"trace\t");
     print_asked(id, x, y);
-    let t = still::trace(head, total, table, ItemId(id), Point { x, y });
-    match t {
-        Traced::Pixel { item, x, y, passed } => print_end(b"pixel", item, x, y, passed),
-        Traced::Fill { item, x, y, passed } => print_end(b"fill", item, x, y, passed),
-        Traced::Refused(f) => print_refusal(f),
+    match still::trace(head, total, table, ItemId(id), Point { x, y }) {
+        Ok(Traced::Pixel { item, x, y, passed }) => print_end(b"pixel", item, x, y, passed),
+        Ok(Traced::Fill { item, x, y, passed }) => print_end(b"fill", item, x, y, passed),
+        Err(f) => print_refusal(f),
     }
 }
 
@@ -118,23 +106,20 @@ fn used_list() -> [u32; 300]
 }
 
 fn print_list(list: &[u32], n: usize) {
-    let mut i: usize = 0;
-    while i < n {
+    for i in 0..n {
         if i == 0 {
             io::print_decimal(1, table::word(list, i) as u64);
         } else {
             print_more(table::word(list, i) as u64);
         }
-        i += 1;
     }
     io::write_all(1, b"\n");
 }
 
 fn print_listed(head: &[u8], total: u64, table: &mut [u32], id: u32, list: &mut [u32]) {
-    let l = still::sources(head, total, table, ItemId(id), list);
-    match l {
-        Listed::Is(n) => print_list(&*list, n),
-        Listed::Refused(f) => print_refusal(f),
+    match still::sources(head, total, table, ItemId(id), list) {
+        Ok(n) => print_list(&*list, n),
+        Err(f) => print_refusal(f),
     }
 }
 
@@ -150,21 +135,13 @@ fn print_sources(head: &[u8], total: u64, table: &mut [u32], id: u32, room: u32)
     }
 }
 
-fn wide(x: u8) -> u32
-    ensures { result ≡ x }
-{
-    x as u32
-}
-
 // A sum over bytes that changes with each of them and with their order.
 fn sum_of(b: &[u8]) -> u64
     ensures { result < 4294967296 }
 {
     let mut sum: u64 = 0;
-    let mut i: usize = 0;
-    while i < b.len() {
-        sum = heads::added(sum, wide(b[i]));
-        i += 1;
+    for x in b {
+        sum = heads::added(sum, u32::from(*x));
     }
     sum
 }
@@ -197,13 +174,12 @@ fn print_orientation(head: &[u8], total: u64, table: &mut [u32], id: u32) {
     io::write_all(1, b"orientation\t");
     io::print_decimal(1, id as u64);
     io::write_all(1, b"\t");
-    let o = still::orientation(head, total, table, ItemId(id));
-    match o {
-        Oriented::Is(n) => {
+    match still::orientation(head, total, table, ItemId(id)) {
+        Ok(n) => {
             io::print_decimal(1, n as u64);
             io::write_all(1, b"\n");
         }
-        Oriented::Refused(f) => print_refusal(f),
+        Err(f) => print_refusal(f),
     }
 }
 
@@ -225,18 +201,17 @@ fn print_transforms(orientation: u32) {
     io::write_all(1, b"transforms\t");
     io::print_decimal(1, orientation as u64);
     io::write_all(1, b"\t");
-    let l = still::transforms(orientation);
-    match l {
-        TransformList::Refused(f) => print_refusal(f),
-        TransformList::None => {
+    match still::transforms(orientation) {
+        Err(f) => print_refusal(f),
+        Ok(TransformList::None) => {
             io::write_all(1, b"0\n");
         }
-        TransformList::One(t) => {
+        Ok(TransformList::One(t)) => {
             io::write_all(1, b"1");
             print_transform(t);
             io::write_all(1, b"\n");
         }
-        TransformList::Two(t, u) => {
+        Ok(TransformList::Two(t, u)) => {
             io::write_all(1, b"2");
             print_transform(t);
             print_transform(u);
@@ -269,11 +244,8 @@ fn answer(name: &[u8], head: &[u8], total: u64, table: &mut [u32]) {
 }
 
 fn answer_all(name: &[u8], head: &[u8], total: u64, table: &mut [u32]) {
-    let n = heads::read_number();
-    let mut i: u32 = 0;
-    while i < n {
+    for _ in 0..heads::read_number() {
         answer(name, head, total, table);
-        i += 1;
     }
 }
 
@@ -292,9 +264,7 @@ fn next_file(table: &mut [u32]) {
 fn main() {
     let count = heads::read_number();
     let mut table = heads::used_table();
-    let mut i: u32 = 0;
-    while i < count {
+    for _ in 0..count {
         next_file(&mut table);
-        i += 1;
     }
 }

@@ -2,7 +2,6 @@
 ghost use Rattle.std.specs.Prelude.{◌≡◌, length};
 
 use crate::{print_more, print_refusal};
-use seam::PointsFilled;
 use table::ItemId;
 
 // Records in which something is left from before.
@@ -16,15 +15,12 @@ fn used_points() -> [[u32; 9]; 600]
 fn read_points(points: &mut [[u32; 9]])
     ensures { length points.new ≡ length points.old }
 {
-    let n = points.len();
-    let mut i: usize = 0;
-    while i < n {
+    for r in points.iter_mut() {
         let x = heads::read_number();
         let y = heads::read_number();
         print_more(x as u64);
         print_more(y as u64);
-        points[i] = [x, y, 9, 9, 9, 9, 9, 9, 9];
-        i += 1;
+        *r = [x, y, 9, 9, 9, 9, 9, 9, 9];
     }
 }
 
@@ -47,22 +43,19 @@ fn print_record(r: [u32; 9]) {
 }
 
 fn print_records(points: &[[u32; 9]]) {
-    let mut i: usize = 0;
-    while i < points.len() {
-        print_record(points[i]);
-        i += 1;
+    for r in points {
+        print_record(*r);
     }
     io::write_all(1, b"\n");
 }
 
 fn print_filled(head: &[u8], total: u64, table: &mut [u32], id: u32, points: &mut [[u32; 9]]) {
-    let f = still::point_numbers(head, total, table, ItemId(id), &mut *points);
-    match f {
-        PointsFilled::Refused(f) => print_refusal(f),
-        PointsFilled::All(n) => {
+    match still::point_numbers(head, total, table, ItemId(id), &mut *points) {
+        Ok(n) => {
             io::print_decimal(1, n as u64);
             print_records(&*points);
         }
+        Err(f) => print_refusal(f),
     }
 }
 

@@ -11,8 +11,7 @@ use Rattle.fields.specs.Choice.{pick}
 use Rattle.fields.proofs.FieldLaws.{both}
 use Rattle.fields.proofs.TestLaws.{both-and}
 use Rattle.arguments.specs.inner.Number.{digit_of, digits, value, number_of}
-use Rattle.arguments.specs.declared.Number.{Number}
-use Rattle.arguments.specs.declared.Number.TheVariants.{Is, Bad}
+use Rattle.std.specs.Prelude.{Option, Some, None}
 
 and-false : (a b : Bool) → a ≡ false → (a && b) ≡ false
 and-false a b e = rw e
@@ -51,29 +50,29 @@ module _ (s : List ℕ) where
   rises n (suc k) = let z : n + suc k ≡ suc (n + k) = omega arith in let e = ap (value s) z in let h = rises n k in omega arith
 
   -- number_of
-  pub empty_bad : length s ≡ 0 → number_of s ≡ Bad
+  pub empty_none : length s ≡ 0 → number_of s ≡ None
   unfolding number_of pick
-  empty_bad e = simp (eq-eqb _ _ e)
+  empty_none e = simp (eq-eqb _ _ e)
 
   -- a byte that shows no digit
-  pub other-bad : (n : ℕ) → n < length s → 9 < digit_of (get_or s n 0) → number_of s ≡ Bad
+  pub other-none : (n : ℕ) → n < length s → 9 < digit_of (get_or s n 0) → number_of s ≡ None
   unfolding number_of pick digits
-  other-bad n h k =
+  other-none n h k =
       let here : digits s (suc n) ≡ false = false-and (digits s n) _ (le-ltb (digit_of (get_or s n 0)) 10 k) in
       let z : suc n + (length s - suc n) ≡ length s = omega arith in
       let bad : digits s (length s) ≡ false = sym (ap (digits s) z) ∙ spoiled (suc n) (length s - suc n) here in
       simp (ne_eqb (length s) 0 (λ e. absurd (omega arith)), bad)
 
   -- a value that 32 bits do not hold
-  pub large_bad : (n : ℕ) → n < length s → 4294967295 < value s (n + 1) → number_of s ≡ Bad
+  pub large_none : (n : ℕ) → n < length s → 4294967295 < value s (n + 1) → number_of s ≡ None
   unfolding number_of pick
-  large_bad n h k =
+  large_none n h k =
       let z : n + 1 + (length s - (n + 1)) ≡ length s = omega arith in
       let r : value s (n + 1) ≤ value s (length s) = subst (λ (m : ℕ). value s (n + 1) ≤ value s m) z (rises (n + 1) (length s - (n + 1))) in
       let w : 4294967296 ≤ value s (length s) = omega arith in
       simp (ne_eqb (length s) 0 (λ e. absurd (omega arith)), le-ltb _ _ w)
-      (both (λ (x : Number). x ≡ Bad) (digits s (length s)) Bad Bad (λ e. refl) (λ e. refl))
+      (both (λ (x : Option ℕ). x ≡ None) (digits s (length s)) None None (λ e. refl) (λ e. refl))
 
-  pub spelled : (n v : ℕ) → n ≡ length s → 0 < length s → v ≡ value s n → digits s n ≡ true → v < 4294967296 → number_of s ≡ Is v
+  pub spelled : (n v : ℕ) → n ≡ length s → 0 < length s → v ≡ value s n → digits s n ≡ true → v < 4294967296 → number_of s ≡ Some v
   unfolding number_of pick
   spelled n v z h q e k = simp (ne_eqb (length s) 0 (λ e. absurd (omega arith)), ← z, e, ← q, lt-ltb v 4294967296 k)

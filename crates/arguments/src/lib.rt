@@ -5,12 +5,6 @@ ghost use Rattle.std.specs.Prelude.{◌≡◌};
 ghost use Rattle.arguments.specs.inner.Number.{digit_of, number_of};
 ghost use Rattle.arguments.specs.inner.Word.{same, word_of, later_word_of, numbers_of, may_be_alone};
 
-#[derive(Drop)]
-pub enum Number {
-    Is(u32),
-    Bad,
-}
-
 // The digit that a byte shows, or 10.
 fn digit_of(b: u8) -> u64
     ensures { result ≡ digit_of b }
@@ -25,43 +19,31 @@ fn digit_of(b: u8) -> u64
 }
 
 // One or more decimal digits, at most 4,294,967,295.
-pub fn number_of(s: &[u8]) -> Number
+pub fn number_of(s: &[u8]) -> Option<u32>
     ensures { result ≡ number_of s.now }
 {
     if s.len() == 0 {
-        return Number::Bad;
+        return None;
     }
     let mut value: u64 = 0;
-    let mut i: usize = 0;
-    while i < s.len() {
+    for i in 0..s.len() {
         let digit = digit_of(s[i]);
         if 9 < digit {
-            return Number::Bad;
+            return None;
         }
         value = value * 10 + digit;
         if 4294967295 < value {
-            return Number::Bad;
+            return None;
         }
-        i += 1;
     }
-    Number::Is(value as u32)
+    Some(value as u32)
 }
 
 // Whether two words have the same bytes.
 pub fn is_word(s: &[u8], word: &[u8]) -> bool
     ensures { result ≡ same s.now word.now }
 {
-    if s.len() != word.len() {
-        return false;
-    }
-    let mut i: usize = 0;
-    while i < s.len() {
-        if s[i] != word[i] {
-            return false;
-        }
-        i += 1;
-    }
-    true
+    s == word
 }
 
 #[derive(Clone, Copy)]
@@ -132,18 +114,16 @@ pub fn numbers_of(w: Word) -> usize
     ensures { result ≡ numbers_of w }
 {
     match w {
-        Word::Verdict => 0,
-        Word::Why => 0,
-        Word::Size => 1,
-        Word::Trace => 3,
-        Word::Sources => 1,
+        Word::Verdict | Word::Why | Word::Unknown => 0,
+        Word::Size
+        | Word::Sources
+        | Word::Crop
+        | Word::Orientation
+        | Word::Transforms
+        | Word::Body => 1,
         Word::Property => 2,
-        Word::Crop => 1,
-        Word::Orientation => 1,
-        Word::Transforms => 1,
+        Word::Trace => 3,
         Word::Points => 5,
-        Word::Body => 1,
-        Word::Unknown => 0,
     }
 }
 
@@ -151,18 +131,8 @@ pub fn numbers_of(w: Word) -> usize
 pub fn may_be_alone(w: Word) -> bool
     ensures { result ≡ may_be_alone w }
 {
-    match w {
-        Word::Verdict => true,
-        Word::Why => true,
-        Word::Size => false,
-        Word::Trace => false,
-        Word::Sources => false,
-        Word::Property => false,
-        Word::Crop => false,
-        Word::Orientation => true,
-        Word::Transforms => false,
-        Word::Points => false,
-        Word::Body => false,
-        Word::Unknown => true,
-    }
+    matches!(
+        w,
+        Word::Verdict | Word::Why | Word::Orientation | Word::Unknown
+    )
 }

@@ -25,10 +25,8 @@ fn put_places(table: &mut [u32], n: usize)
     requires { (n ≤ 256) × (11280 ≤ length table.old) }
     ensures { PlacesPut n table.old table.new }
 {
-    let mut k: usize = 0;
-    while k < n {
+    for k in 0..n {
         table[16 + 16 * k + 15] = k as u32;
-        k += 1;
     }
 }
 
@@ -39,12 +37,10 @@ fn is_rising(rows: &[u32], n: usize) -> bool
     ensures value { Rising n rows.now → result ≡ true }
 {
     let mut rising = true;
-    let mut k: usize = 0;
-    while k < n {
+    for k in 0..n {
         if rows[2048 + k] != k as u32 {
             rising = false;
         }
-        k += 1;
     }
     rising
 }
@@ -54,14 +50,12 @@ fn keep_quarters(table: &[u32], n: usize, c: usize, kept: &mut [u32; 1024])
     requires { (n ≤ 256) × (11280 ≤ length table.now) × (c ≤ 12) × (length kept.old ≡ 1024) }
     ensures { QuartersKept n c table.now kept.old kept.new }
 {
-    let mut k: usize = 0;
-    while k < n {
+    for k in 0..n {
         let a = 16 + 16 * k + c;
         kept[4 * k] = table[a];
         kept[4 * k + 1] = table[a + 1];
         kept[4 * k + 2] = table[a + 2];
         kept[4 * k + 3] = table[a + 3];
-        k += 1;
     }
 }
 
@@ -70,8 +64,7 @@ fn put_quarters(table: &mut [u32], n: usize, c: usize, kept: &[u32; 1024], rows:
     requires { (n ≤ 256) × (11280 ≤ length table.old) × (c ≤ 12) × (2304 ≤ length rows.now) }
     ensures { QuartersPut n c kept.now rows.now table.old table.new }
 {
-    let mut k: usize = 0;
-    while k < n {
+    for k in 0..n {
         let r = (rows[2048 + k] % 256) as usize;
         let to = 16 + 16 * k + c;
         let from = 4 * r;
@@ -79,7 +72,6 @@ fn put_quarters(table: &mut [u32], n: usize, c: usize, kept: &[u32; 1024], rows:
         table[to + 1] = kept[from + 1];
         table[to + 2] = kept[from + 2];
         table[to + 3] = kept[from + 3];
-        k += 1;
     }
 }
 
@@ -89,11 +81,9 @@ fn move_records(table: &mut [u32], n: usize, rows: &[u32])
     ensures { ((k : ℕ) → k < n → row_in rows.now k < n) → Moved n (row_in rows.now) table.old table.new }
 {
     let mut kept = [0u32; 1024];
-    let mut c: usize = 0;
-    while c < 16 {
-        keep_quarters(&*table, n, c, &mut kept);
-        put_quarters(&mut *table, n, c, &kept, rows);
-        c += 4;
+    for q in 0..4 {
+        keep_quarters(&*table, n, 4 * q, &mut kept);
+        put_quarters(&mut *table, n, 4 * q, &kept, rows);
     }
 }
 
@@ -127,10 +117,8 @@ pub fn rows_by_place(table: &[u32]) -> [u32; 256]
     if 256 < n {
         return rows;
     }
-    let mut k: usize = 0;
-    while k < n {
+    for k in 0..n {
         rows[(table::word(table, 16 + 16 * k + 15) % 256) as usize] = k as u32;
-        k += 1;
     }
     rows
 }

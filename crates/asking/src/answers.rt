@@ -1,12 +1,10 @@
 // A line for each question: its word and numbers as asked, then the answer's fields or those of the refusal. `table` is lent and left as `still` leaves it.
 ghost use Rattle.std.specs.Prelude.{◌≡◌, length};
 
-use asked::{FileVerdict, Sized};
 use boxes::Refusal;
-use facing::{Oriented, Transform, TransformList};
+use facing::{Transform, TransformList};
 use lines::print_field;
 use pictures::Point;
-use sourced::Listed;
 use table::ItemId;
 use traced::Traced;
 use words::say;
@@ -31,13 +29,13 @@ pub fn print_verdict(head: &[u8], total: u64, table: &mut [u32]) {
     let v = still::verdict(head, total, table);
     say(1, b"verdict");
     match v {
-        FileVerdict::Refused(f) => print_refused(head, total, f),
-        FileVerdict::Accepted { items, primary } => {
+        Ok(v) => {
             say(1, b"\taccepted");
-            print_field(items as u64);
-            print_field(primary.0 as u64);
+            print_field(v.items as u64);
+            print_field(v.primary.0 as u64);
             say(1, b"\n");
         }
+        Err(f) => print_refused(head, total, f),
     }
 }
 
@@ -46,11 +44,8 @@ pub fn print_why(head: &[u8], total: u64, table: &mut [u32]) {
     let v = still::verdict(head, total, table);
     say(1, b"why");
     match v {
-        FileVerdict::Refused(f) => print_refused(head, total, f),
-        FileVerdict::Accepted {
-            items: _,
-            primary: _,
-        } => say(1, b"\taccepted\t0\t0\tthe file keeps every rule\n"),
+        Ok(_) => say(1, b"\taccepted\t0\t0\tthe file keeps every rule\n"),
+        Err(f) => print_refused(head, total, f),
     }
 }
 
@@ -60,21 +55,15 @@ pub fn print_size(head: &[u8], total: u64, table: &mut [u32], id: u32) {
     say(1, b"size");
     print_field(id as u64);
     match s {
-        Sized::Refused(f) => print_refused(head, total, f),
-        Sized::Is {
-            wide,
-            high,
-            output_wide,
-            output_high,
-            depth,
-        } => {
-            print_field(wide as u64);
-            print_field(high as u64);
-            print_field(output_wide as u64);
-            print_field(output_high as u64);
-            print_field(depth as u64);
+        Ok(s) => {
+            print_field(s.wide as u64);
+            print_field(s.high as u64);
+            print_field(s.output_wide as u64);
+            print_field(s.output_high as u64);
+            print_field(s.depth as u64);
             say(1, b"\n");
         }
+        Err(f) => print_refused(head, total, f),
     }
 }
 
@@ -96,19 +85,9 @@ pub fn print_trace(head: &[u8], total: u64, table: &mut [u32], id: u32, x: u32, 
     print_field(x as u64);
     print_field(y as u64);
     match t {
-        Traced::Refused(f) => print_refused(head, total, f),
-        Traced::Pixel {
-            item,
-            x: end_x,
-            y: end_y,
-            passed,
-        } => print_end(b"\tpixel", item, end_x, end_y, passed),
-        Traced::Fill {
-            item,
-            x: end_x,
-            y: end_y,
-            passed,
-        } => print_end(b"\tfill", item, end_x, end_y, passed),
+        Ok(Traced::Pixel { item, x, y, passed }) => print_end(b"\tpixel", item, x, y, passed),
+        Ok(Traced::Fill { item, x, y, passed }) => print_end(b"\tfill", item, x, y, passed),
+        Err(f) => print_refused(head, total, f),
     }
 }
 
@@ -120,10 +99,8 @@ fn new_list() -> [u32; 256]
 }
 
 fn print_list(list: &[u32], n: usize) {
-    let mut i: usize = 0;
-    while i < n {
+    for i in 0..n {
         print_field(table::word(list, i) as u64);
-        i += 1;
     }
 }
 
@@ -134,20 +111,18 @@ pub fn print_sources(head: &[u8], total: u64, table: &mut [u32], id: u32) {
     say(1, b"sources");
     print_field(id as u64);
     match l {
-        Listed::Refused(f) => print_refused(head, total, f),
-        Listed::Is(n) => {
+        Ok(n) => {
             print_list(&list, n);
             say(1, b"\n");
         }
+        Err(f) => print_refused(head, total, f),
     }
 }
 
 // In hex.
 pub fn print_bytes(part: &[u8]) {
-    let mut i: usize = 0;
-    while i < part.len() {
-        io::print_hex(1, fields::be8(part, i) as u64, 2);
-        i += 1;
+    for b in part {
+        io::print_hex(1, *b as u64, 2);
     }
 }
 
@@ -190,24 +165,21 @@ pub fn print_orientation(head: &[u8], total: u64, table: &mut [u32], id: u32) {
     say(1, b"orientation");
     print_field(id as u64);
     match o {
-        Oriented::Refused(f) => print_refused(head, total, f),
-        Oriented::Is(n) => {
+        Ok(n) => {
             print_field(n as u64);
             say(1, b"\t");
             words::print_orientation(1, n);
             say(1, b"\n");
         }
+        Err(f) => print_refused(head, total, f),
     }
 }
 
 // The same of the primary item, which a refused file does not tell: `-` then stands for its ID.
 pub fn print_primary_orientation(head: &[u8], total: u64, table: &mut [u32]) {
-    let v = still::verdict(head, total, table);
-    match v {
-        FileVerdict::Accepted { items: _, primary } => {
-            print_orientation(head, total, table, primary.0)
-        }
-        FileVerdict::Refused(f) => {
+    match still::verdict(head, total, table) {
+        Ok(v) => print_orientation(head, total, table, v.primary.0),
+        Err(f) => {
             say(1, b"orientation\t-");
             print_refused(head, total, f);
         }
@@ -234,16 +206,16 @@ pub fn print_transforms(orientation: u32) {
     say(1, b"transforms");
     print_field(orientation as u64);
     match l {
-        TransformList::Refused(f) => {
+        Err(f) => {
             open_refused(f);
             words::print_words(1, f.number);
         }
-        TransformList::None => print_field(0),
-        TransformList::One(t) => {
+        Ok(TransformList::None) => print_field(0),
+        Ok(TransformList::One(t)) => {
             print_field(1);
             print_transform(t);
         }
-        TransformList::Two(t, u) => {
+        Ok(TransformList::Two(t, u)) => {
             print_field(2);
             print_transform(t);
             print_transform(u);

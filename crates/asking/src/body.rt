@@ -2,17 +2,11 @@
 ghost use Rattle.std.specs.Prelude.{◌≡◌, length};
 
 use crate::answers::{print_bytes, print_refused};
-use bodied::Bodied;
+use boxes::types::{GRID, IOVL};
 use layout::ZERO;
 use lines::print_field;
-use pictures::{GridRead, OverlayRead};
-use records::FoundRow;
 use table::{ItemId, ItemRow};
 use words::say;
-
-const GRID: u32 = 0x67726964;
-
-const IOVL: u32 = 0x696f766c;
 
 // So many offsets of an overlay are told in words: a line is to be read. The bytes have all of them.
 const TOLD: usize = 16;
@@ -45,23 +39,15 @@ fn print_canvas(wide: u32, high: u32) {
 }
 
 fn print_grid(b: &[u8]) {
-    let g = pictures::read_grid(b);
-    match g {
-        GridRead::Wrong => {}
-        GridRead::Is {
-            rows,
-            columns,
-            wide,
-            high,
-        } => {
-            say(1, b"grid: ");
-            print_many(rows, b" row");
-            say(1, b", ");
-            print_many(columns, b" column");
-            say(1, b", ");
-            print_canvas(wide, high);
-        }
-    }
+    let Some(g) = pictures::read_grid(b) else {
+        return;
+    };
+    say(1, b"grid: ");
+    print_many(g.rows, b" row");
+    say(1, b", ");
+    print_many(g.columns, b" column");
+    say(1, b", ");
+    print_canvas(g.wide, g.high);
 }
 
 // A number to which `ZERO` was added.
@@ -86,13 +72,11 @@ fn print_corner(b: &[u8], bytes: usize, k: u32) {
 
 // The first n inputs, lowest first.
 fn print_corners(b: &[u8], bytes: usize, n: u32) {
-    let mut k: u32 = 0;
-    while k < n {
+    for k in 0..n {
         if 0 < k {
             say(1, b", ");
         }
         print_corner(b, bytes, k);
-        k += 1;
     }
 }
 
@@ -126,16 +110,13 @@ fn print_overlay(b: &[u8], n: usize) {
     if 2048 < n {
         return;
     }
-    let o = pictures::read_overlay(b, n);
-    match o {
-        OverlayRead::Wrong => {}
-        OverlayRead::Is { wide, high, bytes } => {
-            say(1, b"overlay: ");
-            print_canvas(wide, high);
-            print_fill(b);
-            print_inputs(b, bytes, n);
-        }
-    }
+    let Some(o) = pictures::read_overlay(b, n) else {
+        return;
+    };
+    say(1, b"overlay: ");
+    print_canvas(o.wide, o.high);
+    print_fill(b);
+    print_inputs(b, o.bytes, n);
 }
 
 // Why there is none, where a picture of a type has no body.
@@ -169,10 +150,8 @@ fn print_joined(table: &[u32], id: u32, b: &[u8]) {
     }
     print_bytes(b);
     say(1, b"\t");
-    let found = views::row_named(table, ItemId(id), ItemRow(0));
-    match found {
-        FoundRow::Nothing => {}
-        FoundRow::At(row) => print_said(table, row, b),
+    if let Some(row) = views::row_named(table, ItemId(id), ItemRow(0)) {
+        print_said(table, row, b);
     }
     say(1, b"\n");
 }
@@ -184,7 +163,7 @@ pub fn print_body(head: &[u8], total: u64, table: &mut [u32], id: u32) {
     say(1, b"body");
     print_field(id as u64);
     match b {
-        Bodied::Refused(f) => print_refused(head, total, f),
-        Bodied::Is(n) => print_joined(&*table, id, views::part(&buffer, 0, n)),
+        Ok(n) => print_joined(&*table, id, views::part(&buffer, 0, n)),
+        Err(f) => print_refused(head, total, f),
     }
 }

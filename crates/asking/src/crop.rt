@@ -2,11 +2,8 @@
 ghost use Rattle.std.specs.Prelude.{◌≡◌, length};
 
 use crate::answers::print_refused;
-use asked::FileVerdict;
 use boxes::Refusal;
 use lines::print_field;
-use reading::FileRead;
-use records::FoundRow;
 use table::{ItemId, ItemRow};
 use words::say;
 
@@ -25,16 +22,13 @@ fn refusal(number: u32, id: u32) -> Refusal {
 
 // Of a table that was read: 21, 22, or the crops.
 fn print_found(head: &[u8], total: u64, table: &[u32], id: u32) {
-    let found = views::row_named(table, ItemId(id), ItemRow(0));
-    match found {
-        FoundRow::Nothing => print_off(head, total, id, refusal(21, id)),
-        FoundRow::At(row) => {
-            if views::is_image(views::type_of(table, row)) {
-                return crops::print_crops(head, table, row);
-            }
-            print_off(head, total, id, refusal(22, id))
-        }
+    let Some(row) = views::row_named(table, ItemId(id), ItemRow(0)) else {
+        return print_off(head, total, id, refusal(21, id));
+    };
+    if views::is_image(views::type_of(table, row)) {
+        return crops::print_crops(head, table, row);
     }
+    print_off(head, total, id, refusal(22, id))
 }
 
 // Room for the rows that reading finds.
@@ -47,29 +41,18 @@ fn new_rows() -> [u32; 2816]
 // Reads the file again, without judging it.
 fn print_read(head: &[u8], total: u64, table: &mut [u32], id: u32) {
     let mut rows = new_rows();
-    let r = reading::read_file(head, total, table, &mut rows);
-    match r {
-        FileRead::Refused(f) => print_off(head, total, id, f),
-        FileRead::Is {
-            idat: _,
-            idat_end: _,
-        } => print_found(head, total, &*table, id),
+    match reading::read_file(head, total, table, &mut rows) {
+        Ok(_) => print_found(head, total, &*table, id),
+        Err(f) => print_off(head, total, id, f),
     }
 }
 
 // `crop`, ID; a line for each side of each of its crops, or `none`.
 pub fn print_crop(head: &[u8], total: u64, table: &mut [u32], id: u32) {
-    let v = still::verdict(head, total, table);
-    match v {
-        FileVerdict::Refused(f) => {
-            if f.number == 20 {
-                return print_read(head, total, table, id);
-            }
-            print_off(head, total, id, f)
+    if let Err(f) = still::verdict(head, total, table) {
+        if f.number != 20 {
+            return print_off(head, total, id, f);
         }
-        FileVerdict::Accepted {
-            items: _,
-            primary: _,
-        } => print_read(head, total, table, id),
     }
+    print_read(head, total, table, id)
 }

@@ -7,9 +7,8 @@ mod body;
 mod crop;
 mod points;
 
-use arguments::{Number, Word};
+use arguments::Word;
 use between::Seam;
-use input::Input;
 use std::env::Env;
 
 // The numbers that follow a question's word: an item's ID, and x and y of one pixel and of another. Those that it does not take are 0.
@@ -22,12 +21,6 @@ struct Numbers {
     to_y: u32,
 }
 
-#[derive(Drop)]
-enum Given {
-    Are(Numbers),
-    Bad,
-}
-
 // A question's word and its numbers. `alone` says that the word came without any.
 #[derive(Drop)]
 struct Question {
@@ -36,16 +29,10 @@ struct Question {
     numbers: Numbers,
 }
 
-#[derive(Drop)]
-enum Asked {
-    Is(Question),
-    Unclear,
-}
-
 // The number that argument i spells, or 0 where there are no more than i.
-fn number_at(rt: &impl Env, i: usize) -> Number {
+fn number_at(rt: &impl Env, i: usize) -> Option<u32> {
     if input::argument_count(rt) <= i {
-        return Number::Is(0);
+        return Some(0);
     }
     let mut text = [0u8; 16];
     let n = input::argument(rt, i, &mut text);
@@ -53,28 +40,13 @@ fn number_at(rt: &impl Env, i: usize) -> Number {
 }
 
 // The numbers behind the word.
-fn read_numbers(rt: &impl Env) -> Given {
-    let Number::Is(id) = number_at(rt, 2) else {
-        return Given::Bad;
-    };
-    let Number::Is(x) = number_at(rt, 3) else {
-        return Given::Bad;
-    };
-    let Number::Is(y) = number_at(rt, 4) else {
-        return Given::Bad;
-    };
-    let Number::Is(to_x) = number_at(rt, 5) else {
-        return Given::Bad;
-    };
-    let Number::Is(to_y) = number_at(rt, 6) else {
-        return Given::Bad;
-    };
-    Given::Are(Numbers {
-        id,
-        x,
-        y,
-        to_x,
-        to_y,
+fn read_numbers(rt: &impl Env) -> Option<Numbers> {
+    Some(Numbers {
+        id: number_at(rt, 2)?,
+        x: number_at(rt, 3)?,
+        y: number_at(rt, 4)?,
+        to_x: number_at(rt, 5)?,
+        to_y: number_at(rt, 6)?,
     })
 }
 
@@ -101,29 +73,25 @@ fn is_right(word: Word, numbers: usize) -> bool {
     numbers == arguments::numbers_of(word)
 }
 
-// The question that the arguments ask, all of them and no more.
-fn read_question(rt: &impl Env) -> Asked {
+// The question that the arguments ask, all of them and no more; nothing where they ask none.
+fn read_question(rt: &impl Env) -> Option<Question> {
     let word = read_word(rt);
     if let Word::Unknown = word {
-        return Asked::Unclear;
+        return None;
     }
     // The program's own name comes first, then the word.
     let count = input::argument_count(rt);
     if count < 2 {
-        return Asked::Unclear;
+        return None;
     }
     if !is_right(word, count - 2) {
-        return Asked::Unclear;
+        return None;
     }
-    let given = read_numbers(rt);
-    match given {
-        Given::Bad => Asked::Unclear,
-        Given::Are(numbers) => Asked::Is(Question {
-            word,
-            alone: count == 2,
-            numbers,
-        }),
-    }
+    Some(Question {
+        word,
+        alone: count == 2,
+        numbers: read_numbers(rt)?,
+    })
 }
 
 fn print_answer(q: Question, head: &[u8], total: u64) {
@@ -161,10 +129,9 @@ fn print_use() {
 
 fn ask(rt: &HostRuntime, q: Question) {
     let mut head = io::large_buffer();
-    let got = input::read_input(rt, &mut head);
-    match got {
-        Input::Failed => input::print_failed(),
-        Input::Is { here, total } => print_answer(q, &head[..here], total),
+    match input::read_input(rt, &mut head) {
+        Some(got) => print_answer(q, &head[..got.here], got.total),
+        None => input::print_failed(),
     }
 }
 
@@ -179,9 +146,8 @@ fn answer(rt: &HostRuntime, q: Question) {
 }
 
 fn main(rt: HostRuntime) {
-    let asked = read_question(&rt);
-    match asked {
-        Asked::Unclear => print_use(),
-        Asked::Is(q) => answer(&rt, q),
+    match read_question(&rt) {
+        Some(q) => answer(&rt, q),
+        None => print_use(),
     }
 }

@@ -5,7 +5,6 @@ use crate::answers::{print_end, print_refused};
 use between::Seam;
 use boxes::Refusal;
 use lines::print_field;
-use seam::PointsFilled;
 use table::ItemId;
 use words::say;
 
@@ -52,10 +51,8 @@ fn print_point(head: &[u8], id: u32, r: [u32; 9]) {
 }
 
 fn print_all(head: &[u8], id: u32, points: &[[u32; 9]]) {
-    let mut i: usize = 0;
-    while i < points.len() {
-        print_point(head, id, points[i]);
-        i += 1;
+    for r in points {
+        print_point(head, id, *r);
     }
 }
 
@@ -76,10 +73,9 @@ fn print_filled(
     s: Seam,
     points: &mut [[u32; 9]],
 ) {
-    let filled = still::point_numbers(head, total, table, ItemId(id), &mut *points);
-    match filled {
-        PointsFilled::Refused(f) => print_off(head, total, id, s, f),
-        PointsFilled::All(_) => print_all(head, id, &*points),
+    match still::point_numbers(head, total, table, ItemId(id), &mut *points) {
+        Ok(_) => print_all(head, id, &*points),
+        Err(f) => print_off(head, total, id, s, f),
     }
 }
 

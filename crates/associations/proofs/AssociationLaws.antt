@@ -154,11 +154,10 @@ module _ (s : List ℕ) (from w k place most used : ℕ) (t₀ : List ℕ) where
         bad : wanted mark most a ≡ false → answer ≡ refuse 11 place
         bad h = next ∙ association_bad w most place s at so.list _ fits (rw (← is, ← m) h)
 
-        pub list_far : most < a % mark → answer ≡ refuse 11 place
-        list_far h = bad (wanted_far mark most a h)
-
-        pub list-none : a ≡ mark → answer ≡ refuse 11 place
-        list-none h = bad (wanted_none mark most a h)
+        -- too far, or none and essential
+        pub list_far : {P : Type 0} → (most < a % mark) ⊎ (P × (a ≡ mark)) → answer ≡ refuse 11 place
+        list_far (inl h) = bad (wanted_far mark most a h)
+        list_far (inr h) = bad (wanted_none mark most a h.1)
 
         pub list-more : Bytes s → (w ≡ 1) ⊎ (w ≡ 2) → a % mark ≤ most → (a ≡ mark → ⊥) → (v : ℕ) → v ≡ a % mark + pick (leb mark a) 32768 0
             → ListSo (set t (5136 + used + j) v) (at + w) (j + 1)

@@ -1,13 +1,14 @@
 -- One entry of an `ipma`: its ID, its count and its associations, one way out at a time. Assumes nothing.
 use Prim.Native.Nat.{ℕ, ◌+◌, ◌*◌, ◌-◌, ◌≤◌, ◌<◌}
 use native.Mathlib.Omega.{arith}
-use mathlib.Core.Path.{◌≡◌, sym, ap, ◌∙◌, subst}
+use mathlib.Core.Path.{◌≡◌, sym, ap, ◌∙◌}
 use mathlib.Core.List.{List, []}
 use mathlib.Core.Bool.{Bool, true, false}
 use mathlib.Core.Logic.{◌⊎◌, inl, inr}
 use lib.ListN.{length, drop}
 use lib.Seq.{sets}
 use lib.Dec.{eqb}
+use Rattle.std.specs.Prelude.{Some, None, Ok, Err}
 use borrow.Author.Tests.{le-leb, lt-leb}
 use Rattle.fields.specs.Choice.{pick}
 use Rattle.fields.specs.Field.{be_at}
@@ -19,16 +20,11 @@ use Rattle.forms.proofs.StepLaws.{reads, read_reads, reads_got, reads_refused, r
 use Rattle.contents.specs.Full.{id_bytes}
 use Rattle.contents.specs.Ipma.{Association, IpmaEntry, associations_in, rises, association_form, ipma_entry_form}
 use Rattle.table.specs.declared.ItemRow.{ItemRow}
-use Rattle.records.specs.inner.Rows.{id_at, ids_in, FoundIs}
-use Rattle.records.specs.declared.FoundRow.{FoundRow}
-use Rattle.records.specs.declared.FoundRow.TheVariants as found
-use Rattle.records.proofs.IdLaws.{row_listed, found-row, found_none}
+use Rattle.records.specs.inner.Rows.{ids_in, FoundIs}
+use Rattle.records.proofs.IdLaws.{row_listed, row_missing}
 use Rattle.associations.specs.inner.Told.{KeptIds}
-use Rattle.associations.specs.inner.Steps.{AssociatedHere, AssociatedIs, span_words, list_form, ListedHere, ListedIs, Above, NamedHere}
-use Rattle.associations.specs.declared.Associated.{Associated}
-use Rattle.associations.specs.declared.Associated.TheVariants as associated
+use Rattle.associations.specs.inner.Steps.{AssociatedIs, span_words, list_form, ListedHere, ListedIs, Above, NamedHere}
 use Rattle.associations.specs.declared.Listed.{Listed}
-use Rattle.associations.specs.declared.Listed.TheVariants as listed
 use Rattle.associations.proofs.KeepLaws.{kept_self}
 
 -- id_bytes
@@ -65,19 +61,14 @@ module _ (used most w p : ℕ) (s : List ℕ) (at : ℕ) where
           (reads_field p s at 1 _ (omega arith)
           ∙ rw (reads_bind, ← is) (reads_yes p (drop (at + 1) s) 9 _ _ (le-leb _ _ few) ∙ sym (read_reads _ p (drop (at + 1) s))))
 
-      module _ (row : ℕ) (t u : List ℕ) (r : Associated)
-          (a : AssociatedIs ((many (association_form w most) k []).read p (drop (at + 1) s)) s k used t u r) where
-        pub list-refused : (x : Refusal) → r ≡ associated.Refused x → (list_answer ≡ refuse x.number x.place) × KeptIds t u
-        list-refused x e =
-            let b : AssociatedIs ((many (association_form w most) k []).read p (drop (at + 1) s)) s k used t u
-            (associated.Refused x) = subst (AssociatedIs _ s k used t u) e a in
-            (count-then ∙ b.0, b.1)
+      module _ (row : ℕ) (t u : List ℕ) where
+        pub list-refused : (x : Refusal) → AssociatedIs ((many (association_form w most) k []).read p (drop (at + 1) s)) s k used t u (Err x) →
+            (list_answer ≡ refuse x.number x.place) × KeptIds t u
+        list-refused x b = (count-then ∙ b.0, b.1)
 
-        pub list_put : (end : ℕ) → r ≡ associated.Done end → (v : List ℕ) →
+        pub list_put : (end : ℕ) → AssociatedIs ((many (association_form w most) k []).read p (drop (at + 1) s)) s k used t u (Ok end) → (v : List ℕ) →
             v ≡ sets u (16 + 16 * row + 3) (span_words used k) → ListedHere list_answer s row used t v end k
-        list_put end e v q =
-            let b : AssociatedHere ((many (association_form w most) k []).read p (drop (at + 1) s)) s k used t u end =
-            subst (AssociatedIs _ s k used t u) e a in
+        list_put end b v q =
             record {
               list = b.list;
               read = count-then ∙ b.read;
@@ -139,27 +130,20 @@ module _ (t : List ℕ) (n most v w p : ℕ) (s : List ℕ) (at above used wide 
         rising : rises id before ≡ true
         rising = last id ∙ le-leb above id up
 
-        pub entry_unlisted : (x : FoundRow) → FoundIs t n id x → x ≡ found.Nothing → (entry_answer ≡ refuse 11 p) × KeptIds t t
-        entry_unlisted x f e = (named-unlisted (ids_in t n) most v w before p s at wide wide_is here room id is rising (found_none t n id x f e), kept_self t)
+        pub entry_unlisted : FoundIs t n id None → (entry_answer ≡ refuse 11 p) × KeptIds t t
+        entry_unlisted f = (named-unlisted (ids_in t n) most v w before p s at wide wide_is here room id is rising (row_missing t n id f), kept_self t)
 
-        module _ (row : ItemRow) (x : FoundRow) (f : FoundIs t n id x) (g : x ≡ found.At row) (u : List ℕ) (r : Listed)
-            (a : ListedIs ((list_form used most w).read p (drop (at + wide) s)) s row.0 used t u r) where
-          there : (row.0 < n) × (id_at t row.0 ≡ id)
-          there = found-row t n id x row f g
-
+        module _ (row : ItemRow) (f : FoundIs t n id (Some row)) (u : List ℕ) where
           then : entry_answer ≡ reads (list_form used most w) p (drop (at + wide) s) (λ l q. got (record { id = id; list = l }) q)
-          then = named-then (ids_in t n) most v w before p s at wide wide_is here room id is rising (row_listed t n id row.0 there.0 there.1) ∙ rw total
+          then = named-then (ids_in t n) most v w before p s at wide wide_is here room id is rising (row_listed t n id row.0 f.0 f.1) ∙ rw total
 
-          pub entry_refused : (y : Refusal) → r ≡ listed.Refused y → (entry_answer ≡ refuse y.number y.place) × KeptIds t u
-          entry_refused y e =
-              let b : ListedIs ((list_form used most w).read p (drop (at + wide) s)) s row.0 used t u (listed.Refused y)
-              = subst (ListedIs _ s row.0 used t u) e a in
-              (then ∙ reads_refused (list_form used most w) p (drop (at + wide) s) _ _ _ b.0, b.1)
+          pub entry_refused : (y : Refusal) → ListedIs ((list_form used most w).read p (drop (at + wide) s)) s row.0 used t u (Err y) →
+              (entry_answer ≡ refuse y.number y.place) × KeptIds t u
+          entry_refused y b = (then ∙ reads_refused (list_form used most w) p (drop (at + wide) s) _ _ _ b.0, b.1)
 
-          pub entry_put : (end count : ℕ) → r ≡ listed.Is end count → NamedHere entry_answer s n above used t u end count id row.0
-          entry_put end count e =
-              let b : ListedHere ((list_form used most w).read p (drop (at + wide) s)) s row.0 used t u end count =
-              subst (ListedIs _ s row.0 used t u) e a in
+          pub entry_put : (l : Listed) → ListedIs ((list_form used most w).read p (drop (at + wide) s)) s row.0 used t u (Ok l) →
+              NamedHere entry_answer s n above used t u l.end l.k id row.0
+          entry_put l b =
               record {
                 list = b.list;
                 read = then ∙ reads_got (list_form used most w) p (drop (at + wide) s) _ _ _ b.read;
@@ -167,6 +151,6 @@ module _ (t : List ℕ) (n most v w p : ℕ) (s : List ℕ) (at above used wide 
                 count-is = b.count-is;
                 fits = b.fits;
                 rising = up;
-                found = there;
+                found = f;
                 stored = b.stored;
               }

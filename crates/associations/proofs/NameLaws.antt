@@ -12,7 +12,10 @@ use Rattle.fields.specs.Choice.{pick}
 use Rattle.fields.specs.Field.{be_at}
 use Rattle.fields.specs.Lists.{member}
 use Rattle.boxes.specs.Answer.{Answer, refuse}
+use Rattle.std.specs.Prelude.{Result, Ok, Err}
+use Rattle.boxes.specs.Told.{told}
 use Rattle.boxes.specs.declared.Refusal.{Refusal}
+use Rattle.boxes.proofs.ToldLaws.{told-refused}
 use Rattle.boxes.proofs.AnswerLaws.{ok_inj}
 use Rattle.forms.specs.Form.{Form, Got, many, whole}
 use Rattle.forms.proofs.StepLaws.{
@@ -32,15 +35,13 @@ use Rattle.forms.proofs.StepLaws.{
   over-left,
 }
 use Rattle.contents.specs.Full.{full, upto}
-use Rattle.contents.specs.inner.Told.{told_full}
-use Rattle.contents.specs.declared.FullRead.{FullRead}
-use Rattle.contents.specs.declared.FullRead.TheVariants as fullread
-use Rattle.contents.proofs.FullLaws.{FullHere, full-here, full_gone}
+use Rattle.contents.specs.inner.Told.{full_of}
+use Rattle.contents.specs.declared.Full as code
+use Rattle.contents.proofs.FullLaws.{FullHere, full-here}
 use Rattle.contents.specs.Iinf.{ids_of}
 use Rattle.contents.specs.Ipma.{Association, IpmaEntry, associations_in, rises, ipma_entry_form, ipma_form}
 use Rattle.contents.specs.File.{File}
 use Rattle.rules.specs.Places.{Places}
-use Rattle.table.specs.declared.ItemRow.{ItemRow}
 use Rattle.records.specs.inner.Raw.{Bounded, raw_of}
 use Rattle.records.specs.inner.Rows.{id_at, ids_in}
 use Rattle.records.specs.inner.Stage.{Ready, with_names}
@@ -48,12 +49,9 @@ use Rattle.records.proofs.MemberLaws.{member-other}
 use Rattle.records.proofs.SaidLaws.{named_in}
 use Rattle.records.proofs.RawLaws.{raw-id, raw-named}
 use Rattle.contents.proofs.SumLaws.{associations-more}
-use Rattle.associations.specs.inner.Told.{KeptIds, told_names, NamesLeft}
-use Rattle.associations.specs.inner.Steps.{association_words, span_words, Above, NamedHere, NamedPutIs}
+use Rattle.associations.specs.inner.Told.{KeptIds, NamesLeft}
+use Rattle.associations.specs.inner.Steps.{association_words, span_words, Above, NamedPutIs}
 use Rattle.associations.specs.declared.NamedPut.{NamedPut}
-use Rattle.associations.specs.declared.NamedPut.TheVariants as named
-use Rattle.associations.specs.declared.NamesRead.{NamesRead}
-use Rattle.associations.specs.declared.NamesRead.TheVariants as names
 use Rattle.associations.proofs.KeepLaws.{kept_self, kept_then, sets-high, sets-row}
 
 -- one entry more
@@ -107,7 +105,7 @@ module _ (ids : List ℕ) (most p : ℕ) (s : List ℕ) where
   ipma_gone a b e = rw (whole_reads, reads_bind) (reads_refused (full (upto 1)) p s _ a b e)
 
   -- behind version and flags
-  module _ (v f : ℕ) (h : FullHere (upto 1) p s v f) where
+  module _ (v : code.Full) (h : FullHere (upto 1) p s v) where
     ipma-short : length s < 8 → ipma_answer ≡ refuse 8 p
     unfolding ipma_form
     ipma-short l = rw (whole_reads, reads_bind) (reads_got (full (upto 1)) p s _ _ _ h.read ∙ rw reads_bind (reads_short p s 4 4 _ h.room l))
@@ -120,46 +118,46 @@ module _ (ids : List ℕ) (most p : ℕ) (s : List ℕ) where
           (reads_got (full (upto 1)) p s _ _ _ h.read
           ∙ rw reads_bind (reads_field p s 4 4 _ room ∙ rw (reads_bind, ← is) (reads_no p (drop 8 s) 9 _ _ (lt-leb count 256 l))))
 
-      ipma-then : count ≤ 256 → (w : ℕ) → w ≡ pick (eqb (f % 2) 1) 2 1 → ipma_answer ≡ whole (many (ipma_entry_form ids most v w) count []) p (drop 8 s)
+      ipma-then : count ≤ 256 → (w : ℕ) → w ≡ pick (eqb (v.flags % 2) 1) 2 1 →
+          ipma_answer ≡ whole (many (ipma_entry_form ids most v.version w) count []) p (drop 8 s)
       unfolding ipma_form
       ipma-then l w e =
           rw (whole_reads, reads_bind)
           (reads_got (full (upto 1)) p s _ _ _ h.read
           ∙ rw reads_bind (reads_field p s 4 4 _ room
           ∙ rw (reads_bind, ← is, ← e) (reads_yes p (drop 8 s) 9 _ _ (le-leb count 256 l) ∙
-          sym (whole_reads (many (ipma_entry_form ids most v w) count []) p (drop 8 s)))))
+          sym (whole_reads (many (ipma_entry_form ids most v.version w) count []) p (drop 8 s)))))
 
 -- the same of a table t with n items: the code's answer r and the table u afterwards
 module _ (t : List ℕ) (n most p : ℕ) (s : List ℕ) where
-  abbrev Tells : NamesRead → List ℕ → Type 0
-  Tells r u = (r ≡ told_names (ipma_answer (ids_in t n) most p s)) × NamesLeft (ipma_answer (ids_in t n) most p s) n t u
+  abbrev Tells : Result ℕ Refusal → List ℕ → Type 0
+  Tells r u = (r ≡ told associations_in (ipma_answer (ids_in t n) most p s)) × NamesLeft (ipma_answer (ids_in t n) most p s) n t u
 
-  tells_refused : (y : Refusal) → ipma_answer (ids_in t n) most p s ≡ refuse y.number y.place → Tells (names.Refused y) t
-  unfolding told_names
-  tells_refused y e = (sym (ap told_names e), names_gone _ n t t _ _ (kept_self t) e)
+  tells_refused : (y : Refusal) → ipma_answer (ids_in t n) most p s ≡ refuse y.number y.place → Tells (Err y) t
+  unfolding told
+  tells_refused y e = (sym (ap (told associations_in) e), names_gone _ n t t _ _ (kept_self t) e)
 
-  module _ (r : FullRead) (e : r ≡ told_full ((full (upto 1)).read p s)) where
-    pub read_gone : (y : Refusal) → r ≡ fullread.Refused y → Tells (names.Refused y) t
-    read_gone y q = tells_refused y (ipma_gone (ids_in t n) most p s _ _ (full_gone (upto 1) p s _ _ (sym e ∙ q)))
+  pub read_gone : (y : Refusal) → Err y ≡ told full_of ((full (upto 1)).read p s) → Tells (Err y) t
+  read_gone y e = tells_refused y (ipma_gone (ids_in t n) most p s _ _ (told-refused full_of _ y (sym e)))
 
-    module _ (v f : ℕ) (q : r ≡ fullread.Is v f) where
-      here : FullHere (upto 1) p s v f
-      here = full-here (upto 1) p s v f (sym e ∙ q)
+  module _ (v : code.Full) (e : Ok v ≡ told full_of ((full (upto 1)).read p s)) where
+    here : FullHere (upto 1) p s v
+    here = full-here (upto 1) p s v (sym e)
 
-      pub read_short : length s < 8 → Tells (names.Refused (record { number = 8; place = p })) t
-      read_short l = tells_refused _ (ipma-short (ids_in t n) most p s v f here l)
+    pub read_short : length s < 8 → Tells (Err (record { number = 8; place = p })) t
+    read_short l = tells_refused _ (ipma-short (ids_in t n) most p s v here l)
 
-      module _ (room : 8 ≤ length s) (count : ℕ) (is : count ≡ be_at s 4 4) where
-        pub read-many : 256 < count → Tells (names.Refused (record { number = 9; place = p })) t
-        read-many l = tells_refused _ (ipma-many (ids_in t n) most p s v f here room count is l)
+    module _ (room : 8 ≤ length s) (count : ℕ) (is : count ≡ be_at s 4 4) where
+      pub read-many : 256 < count → Tells (Err (record { number = 9; place = p })) t
+      read-many l = tells_refused _ (ipma-many (ids_in t n) most p s v here room count is l)
 
-        pub read_entries : count ≤ 256 → (w : ℕ) → w ≡ pick (eqb (f % 2) 1) 2 1 → (m : NamesRead) (u : List ℕ)
-            → (m ≡ told_names (whole (many (ipma_entry_form (ids_in t n) most v w) count []) p (drop 8 s))) ×
-            NamesLeft (whole (many (ipma_entry_form (ids_in t n) most v w) count []) p (drop 8 s)) n t u
-            → Tells m u
-        read_entries l w g m u k =
-            let z = sym (ipma-then (ids_in t n) most p s v f here room count is l w g) in
-            (k.0 ∙ ap told_names z, subst (λ (a : Answer (List IpmaEntry)). NamesLeft a n t u) z k.1)
+      pub read_entries : count ≤ 256 → (w : ℕ) → w ≡ pick (eqb (v.flags % 2) 1) 2 1 → (m : Result ℕ Refusal) (u : List ℕ)
+          → (m ≡ told associations_in (whole (many (ipma_entry_form (ids_in t n) most v.version w) count []) p (drop 8 s))) ×
+          NamesLeft (whole (many (ipma_entry_form (ids_in t n) most v.version w) count []) p (drop 8 s)) n t u
+          → Tells m u
+      read_entries l w g m u k =
+          let z = sym (ipma-then (ids_in t n) most p s v here room count is l w g) in
+          (k.0 ∙ ap (told associations_in) z, subst (λ (a : Answer (List IpmaEntry)). NamesLeft a n t u) z k.1)
 
 -- what the loop keeps: the entries read so far, from `from` to `at`, and the table with them
 module _ (s : List ℕ) (from count most v w place n : ℕ) (t₀ : List ℕ) where
@@ -204,15 +202,15 @@ module _ (s : List ℕ) (from count most v w place n : ℕ) (t₀ : List ℕ) wh
       last-read : names_answer ≡ over place so.entries (drop at s)
       last-read = let e : count - i ≡ 0 = omega arith in so.same ∙ rw e (reads_none entry place (drop at s) (over place) so.entries)
 
-      pub names-left : at < length s → (names.Refused (record { number = 8; place = place }) ≡ told_names names_answer) × NamesLeft names_answer n t₀ t
-      unfolding told_names
-      names-left h = let e = last-read ∙ over-left place so.entries s at h in (sym (ap told_names e), names_gone names_answer n t₀ t _ _ so.kept e)
+      pub names-left : at < length s → (Err (record { number = 8; place = place }) ≡ told associations_in names_answer) × NamesLeft names_answer n t₀ t
+      unfolding told
+      names-left h = let e = last-read ∙ over-left place so.entries s at h in (sym (ap (told associations_in) e), names_gone names_answer n t₀ t _ _ so.kept e)
 
-      pub names-done : length s ≤ at → (names.Associations used ≡ told_names names_answer) × NamesLeft names_answer n t₀ t
-      unfolding told_names
+      pub names-done : length s ≤ at → (Ok used ≡ told associations_in names_answer) × NamesLeft names_answer n t₀ t
+      unfolding told
       names-done h =
           let e = last-read ∙ over-end place so.entries s at h in (
-            ap names.Associations (sym so.total) ∙ sym (ap told_names e),
+            ap Ok (sym so.total) ∙ sym (ap (told associations_in) e),
             record {
               same = so.kept;
               told = λ pl f x ns ready none q is. so.told pl f x ready none is ∙
@@ -221,8 +219,7 @@ module _ (s : List ℕ) (from count most v w place n : ℕ) (t₀ : List ℕ) wh
           )
 
     -- one more
-    module _ (more : i < count) (n-small : n ≤ 256) (u : List ℕ) (r : NamedPut)
-        (put : NamedPutIs ((ipma_entry_form (ids_in t n) most v w so.entries).read place (drop at s)) s n above used t u r) where
+    module _ (more : i < count) (n-small : n ≤ 256) (u : List ℕ) where
       next : (m : Answer (Got IpmaEntry)) → (ipma_entry_form (ids_in t n) most v w so.entries).read place (drop at s) ≡ m →
           (entry so.entries).read place (drop at s) ≡ m
       next m e = ap (λ (ids : List ℕ). (ipma_entry_form ids most v w so.entries).read place (drop at s)) (sym (so.kept.ids n n-small)) ∙ e
@@ -233,47 +230,39 @@ module _ (s : List ℕ) (from count most v w place n : ℕ) (t₀ : List ℕ) wh
           let e : count - i ≡ suc (count - (i + 1)) = omega arith in
           so.same ∙ rw e (reads_more entry place (drop at s) (over place) (count - (i + 1)) so.entries)
 
-      pub names-refused : (y : Refusal) → r ≡ named.Refused y → (names.Refused y ≡ told_names names_answer) × NamesLeft names_answer n t₀ u
-      unfolding told_names
-      names-refused y e =
-          let b : NamedPutIs ((ipma_entry_form (ids_in t n) most v w so.entries).read place (drop at s)) s n above used t u
-          (named.Refused y) = subst (NamedPutIs _ s n above used t u) e put in
+      pub names-refused : (y : Refusal) →
+          NamedPutIs ((ipma_entry_form (ids_in t n) most v w so.entries).read place (drop at s)) s n above used t u (Err y) →
+          (Err y ≡ told associations_in names_answer) × NamesLeft names_answer n t₀ u
+      unfolding told
+      names-refused y b =
           let q = step ∙ reads_refused (entry so.entries) place (drop at s) _ _ _ (next _ b.0) in
-          (sym (ap told_names q), names_gone names_answer n t₀ u _ _ (kept_then t₀ t u so.kept b.1) q)
+          (sym (ap (told associations_in) q), names_gone names_answer n t₀ u _ _ (kept_then t₀ t u so.kept b.1) q)
 
-      module _ (end k id : ℕ) (row : ItemRow) (e : r ≡ named.Is end k id row) where
-        abbrev Here : Type 0
-        Here = NamedHere ((ipma_entry_form (ids_in t n) most v w so.entries).read place (drop at s)) s n above used t u end k id row.0
-
-        pub put-here : Here
-        put-here = subst (NamedPutIs _ s n above used t u) e put
-
-        put-kept : Here → KeptIds t u
-        put-kept b =
+      module _ (y : NamedPut) (b : NamedPutIs ((ipma_entry_form (ids_in t n) most v w so.entries).read place (drop at s)) s n above used t u (Ok y)) where
+        put-kept : KeptIds t u
+        put-kept =
             let m = sets t (5136 + used) (association_words b.list) in
             subst (KeptIds t) (sym b.stored)
             (kept_then t m _
             (sets-high t (association_words b.list) (5136 + used) (omega arith) (rw length-map (omega (arith, b.fits, b.count-is))))
-            (sets-row m row.0 _ _ (omega (arith, b.found.0))))
+            (sets-row m y.row.0 _ _ (omega (arith, b.found.0))))
 
-        pub names_more : NamesSo u end (used + k) (id + 1) (i + 1)
+        pub names_more : NamesSo u y.end (used + y.k) (y.id + 1) (i + 1)
         names_more =
-            let b = put-here in
-            let c = b.count-is in
-            let x : IpmaEntry = record { id = id; list = b.list } in
+            let x : IpmaEntry = record { id = y.id; list = b.list } in
             record {
               entries = so.entries ++ (x ∷ []);
               here = b.inside;
               turn = omega arith;
-              total = associations-more so.entries x ∙ omega (arith, so.total);
+              total = associations-more so.entries x ∙ omega (arith, so.total, b.count-is);
               few = b.fits;
-              last = λ y. rises-more so.entries x y ∙ next_above id y;
-              fresh = λ y l. rw map-append (member-other y id (named_in so.entries) (λ (q : y ≡ id). omega arith) ∙ so.fresh y (omega (arith, b.rising)));
+              last = λ z. rises-more so.entries x z ∙ next_above y.id z;
+              fresh = λ z l. rw map-append (member-other z y.id (named_in so.entries) (λ (q : z ≡ y.id). omega arith) ∙ so.fresh z (omega (arith, b.rising)));
               same = step ∙ reads_got (entry so.entries) place (drop at s) _ _ _ (next _ b.read);
-              kept = kept_then t₀ t u so.kept (put-kept b);
+              kept = kept_then t₀ t u so.kept put-kept;
               told = λ pl f z ready none is.
                   b.stored
-                  ∙ ap (λ (j : ℕ). sets (sets t (5136 + used) (association_words b.list)) (16 + 16 * row.0 + 3) (span_words used j)) (sym c)
-                  ∙ raw-more pl f z n ready so.entries t (so.told pl f z ready none is) used id row.0 b.list
-                  so.total (omega (arith, b.fits)) (so.fresh id b.rising) b.found.0 b.found.1;
+                  ∙ ap (λ (j : ℕ). sets (sets t (5136 + used) (association_words b.list)) (16 + 16 * y.row.0 + 3) (span_words used j)) (sym b.count-is)
+                  ∙ raw-more pl f z n ready so.entries t (so.told pl f z ready none is) used y.id y.row.0 b.list
+                  so.total (omega (arith, b.fits, b.count-is)) (so.fresh y.id b.rising) b.found.0 b.found.1;
             }

@@ -5,16 +5,15 @@ ghost use Rattle.std.specs.Prelude.{◌≡◌, List, [], ◌⊎◌, ℕ, ◌+◌
 ghost use Rattle.std.proofs.lemmas.List.Edits.{sets};
 ghost use Rattle.fields.specs.Choice.{pick};
 ghost use Rattle.fields.specs.Field.{be_at};
+ghost use Rattle.boxes.specs.Told.{told};
 ghost use Rattle.forms.specs.Form.{Form, many, whole};
 ghost use Rattle.contents.specs.Full.{id_bytes};
 ghost use Rattle.contents.specs.Ipma.{IpmaEntry, associations_in, mark_of, association_form, ipma_entry_form, ipma_form};
 ghost use Rattle.records.specs.inner.Rows.{ids_in};
-ghost use Rattle.associations.specs.inner.Told.{told_names, NamesLeft};
+ghost use Rattle.associations.specs.inner.Told.{NamesLeft};
 ghost use Rattle.associations.specs.inner.Steps.{AssociatedIs, span_words, list_form, ListedIs, Above, NamedPutIs};
 
 use boxes::Refusal;
-use contents::FullRead;
-use records::FoundRow;
 use table::{ItemId, ItemRow, Table};
 
 // The essential bit of an association of w bytes.
@@ -30,9 +29,10 @@ fn word_at(s: &[u8], at: usize, w: usize) -> u32
     ensures { result ≡ be_at s.now at w }
 {
     if w == 2 {
-        return fields::be16(s, at);
+        fields::be16(s, at)
+    } else {
+        fields::be8(s, at)
     }
-    fields::be8(s, at)
 }
 
 // An association as the table has it: the index, and 32,768 more if essential. `mark` is the essential bit of the word a.
@@ -46,13 +46,8 @@ fn association_of(a: u32, mark: u32) -> u32
     a
 }
 
-#[derive(Drop)]
-pub enum Associated {
-    Done { end: usize },
-    Refused(Refusal),
-}
-
 // k associations of w bytes each from a place on, as the associations from a number on; `most` properties are there.
+// Returns where they end.
 fn put_associations(
     s: &[u8],
     from: usize,
@@ -62,30 +57,25 @@ fn put_associations(
     table: &mut [u32],
     used: usize,
     most: u32,
-) -> Associated
+) -> Result<usize, Refusal>
     requires { (from ≤ length s.now) × ((w ≡ 1) ⊎ (w ≡ 2)) × (used + k ≤ 2048) × (11280 ≤ length table.old) }
     ensures { AssociatedIs ((many (association_form w most) k []).read place (drop from s.now))
         s.now k used table.old table.new result }
 {
     let mark = mark_of(w);
     let mut at = from;
-    let mut j: usize = 0;
-    while j < k {
+    for j in 0..k {
         if s.len() - at < w {
-            return Associated::Refused(Refusal { number: 8, place });
+            return Err(Refusal { number: 8, place });
         }
         let a = word_at(s, at, w);
-        if most < a % mark {
-            return Associated::Refused(Refusal { number: 11, place });
-        }
-        if a == mark {
-            return Associated::Refused(Refusal { number: 11, place });
+        if most < a % mark || a == mark {
+            return Err(Refusal { number: 11, place });
         }
         table[Table::ASSOCIATIONS + used + j] = association_of(a, mark);
         at += w;
-        j += 1;
     }
-    Associated::Done { end: at }
+    Ok(at)
 }
 
 // Where the associations of a row's item begin and how many they are; with none, 0.
@@ -115,10 +105,10 @@ pub struct Written {
 }
 
 // Where a list ends and how many associations it has.
-#[derive(Drop)]
-pub enum Listed {
-    Is { end: usize, k: usize },
-    Refused(Refusal),
+#[derive(Clone, Copy)]
+pub struct Listed {
+    pub end: usize,
+    pub k: usize,
 }
 
 // The count of an entry and its associations, for the item in a row.
@@ -130,28 +120,21 @@ fn put_list(
     table: &mut [u32],
     row: ItemRow,
     used: usize,
-) -> Listed
+) -> Result<Listed, Refusal>
     requires { (at ≤ length s.now) × ((f.word ≡ 1) ⊎ (f.word ≡ 2)) × (row.0 < 256) × (used ≤ 2048) × (11280 ≤ length table.old) }
     ensures { ListedIs ((list_form used f.most f.word).read place (drop at s.now))
         s.now row.0 used table.old table.new result }
 {
     if s.len() - at < 1 {
-        return Listed::Refused(Refusal { number: 8, place });
+        return Err(Refusal { number: 8, place });
     }
     let k = fields::be8(s, at) as usize;
     if 2048 < used + k {
-        return Listed::Refused(Refusal { number: 9, place });
+        return Err(Refusal { number: 9, place });
     }
-    let w = f.word;
-    let m = f.most;
-    let p = put_associations(s, at + 1, w, k, place, table, used, m);
-    match p {
-        Associated::Refused(r) => Listed::Refused(r),
-        Associated::Done { end } => {
-            put_span(table, row, used, k);
-            Listed::Is { end, k }
-        }
-    }
+    let end = put_associations(s, at + 1, f.word, k, place, table, used, f.most)?;
+    put_span(table, row, used, k);
+    Ok(Listed { end, k })
 }
 
 // The bytes of an ID.
@@ -162,15 +145,12 @@ fn id_bytes(version: u32) -> usize
 }
 
 // Where an entry ends, how many associations it has, its ID and the row of that.
-#[derive(Drop)]
-pub enum NamedPut {
-    Is {
-        end: usize,
-        k: usize,
-        id: u32,
-        row: ItemRow,
-    },
-    Refused(Refusal),
+#[derive(Clone, Copy)]
+pub struct NamedPut {
+    pub end: usize,
+    pub k: usize,
+    pub id: u32,
+    pub row: ItemRow,
 }
 
 // One entry, into the table. The IDs before it are below `above`. Its row is looked for at the one hoped for, then by keys.
@@ -186,38 +166,30 @@ fn put_named(
     keys: &[u64; 512],
     turn: usize,
     used: usize,
-) -> NamedPut
+) -> Result<NamedPut, Refusal>
     requires { (at ≤ length s.now) × ((f.word ≡ 1) ⊎ (f.word ≡ 2)) × (n ≤ 256) × (used ≤ 2048) × (11280 ≤ length table.old) }
     ensures { (before : List IpmaEntry) → associations_in before ≡ used → Above before above →
         NamedPutIs ((ipma_entry_form (ids_in table.old n) f.most f.version f.word before).read place
         (drop at s.now)) s.now n above used table.old table.new result }
 {
-    let v = f.version;
-    let w = id_bytes(v);
+    let w = id_bytes(f.version);
     if s.len() - at < w {
-        return NamedPut::Refused(Refusal { number: 8, place });
+        return Err(Refusal { number: 8, place });
     }
     let id = fields::be_id(s, at, w);
     if (id as u64) < above {
-        return NamedPut::Refused(Refusal { number: 10, place });
+        return Err(Refusal { number: 10, place });
     }
-    let found = records::row_in_turn(&*table, n, ItemId(id), hope, keys, turn);
-    match found {
-        FoundRow::Nothing => NamedPut::Refused(Refusal { number: 11, place }),
-        FoundRow::At(row) => {
-            let p = put_list(s, at + w, f, place, table, row, used);
-            match p {
-                Listed::Refused(r) => NamedPut::Refused(r),
-                Listed::Is { end, k } => NamedPut::Is { end, k, id, row },
-            }
-        }
-    }
-}
-
-#[derive(Drop)]
-pub enum NamesRead {
-    Associations(usize),
-    Refused(Refusal),
+    let Some(row) = records::row_in_turn(&*table, n, ItemId(id), hope, keys, turn) else {
+        return Err(Refusal { number: 11, place });
+    };
+    let p = put_list(s, at + w, f, place, table, row, used)?;
+    Ok(NamedPut {
+        end: p.end,
+        k: p.k,
+        id,
+        row,
+    })
 }
 
 // `count` entries from a place on, which are the rest of s.
@@ -230,9 +202,9 @@ fn put_names(
     table: &mut [u32],
     n: usize,
     keys: &[u64; 512],
-) -> NamesRead
+) -> Result<usize, Refusal>
     requires { (from ≤ length s.now) × ((f.word ≡ 1) ⊎ (f.word ≡ 2)) × (n ≤ 256) × (11280 ≤ length table.old) × (count < 4294967296) }
-    ensures value { result ≡ told_names (whole (many
+    ensures value { result ≡ told associations_in (whole (many
         (ipma_entry_form (ids_in table.old n) f.most f.version f.word) count []) place (drop from
         s.now)) }
     ensures names_left { NamesLeft (whole (many (ipma_entry_form (ids_in table.old n) f.most f.version f.word)
@@ -243,8 +215,7 @@ fn put_names(
     let mut above: u64 = 0;
     let mut hope: usize = 0;
     let first = records::first_key(keys);
-    let mut i: usize = 0;
-    while i < count {
+    for i in 0..count {
         let t = put_named(
             s,
             at,
@@ -257,25 +228,16 @@ fn put_names(
             keys,
             first + i,
             used,
-        );
-        match t {
-            NamedPut::Refused(r) => {
-                return NamesRead::Refused(r);
-            }
-            NamedPut::Is { end, k, id, row } => {
-                at = end;
-                used += k;
-                above = (id as u64) + 1;
-                let r = row.0;
-                hope = r + 1;
-                i += 1;
-            }
-        }
+        )?;
+        at = t.end;
+        used += t.k;
+        above = (t.id as u64) + 1;
+        hope = t.row.0 + 1;
     }
     if at < s.len() {
-        return NamesRead::Refused(Refusal { number: 8, place });
+        return Err(Refusal { number: 8, place });
     }
-    NamesRead::Associations(used)
+    Ok(used)
 }
 
 // The associations of the `ipma` at a place into a table with n items and `most` properties. Two calls of `put_names`,
@@ -287,36 +249,31 @@ pub fn read_names(
     n: usize,
     keys: &[u64; 512],
     most: u32,
-) -> NamesRead
+) -> Result<usize, Refusal>
     requires { (n ≤ 256) × (11280 ≤ length table.old) }
-    ensures value { result ≡ told_names (whole (ipma_form (ids_in table.old n) most) place s.now) }
+    ensures value { result ≡ told associations_in (whole (ipma_form (ids_in table.old n) most) place s.now) }
     ensures names_left { NamesLeft (whole (ipma_form (ids_in table.old n) most) place s.now) n table.old table.new }
 {
-    let h = contents::read_full(s, 0, 1, place);
-    match h {
-        FullRead::Refused(r) => NamesRead::Refused(r),
-        FullRead::Is { version, flags } => {
-            if s.len() < 8 {
-                return NamesRead::Refused(Refusal { number: 8, place });
-            }
-            let count = fields::be32(s, 4);
-            if 256 < count {
-                return NamesRead::Refused(Refusal { number: 9, place });
-            }
-            if flags % 2 == 1 {
-                let f = Written {
-                    version,
-                    word: 2,
-                    most,
-                };
-                return put_names(s, 8, count as usize, f, place, table, n, keys);
-            }
-            let f = Written {
-                version,
-                word: 1,
-                most,
-            };
-            put_names(s, 8, count as usize, f, place, table, n, keys)
-        }
+    let h = contents::read_full(s, 0, 1, place)?;
+    if s.len() < 8 {
+        return Err(Refusal { number: 8, place });
     }
+    let count = fields::be32(s, 4);
+    if 256 < count {
+        return Err(Refusal { number: 9, place });
+    }
+    if h.flags % 2 == 1 {
+        let f = Written {
+            version: h.version,
+            word: 2,
+            most,
+        };
+        return put_names(s, 8, count as usize, f, place, table, n, keys);
+    }
+    let f = Written {
+        version: h.version,
+        word: 1,
+        most,
+    };
+    put_names(s, 8, count as usize, f, place, table, n, keys)
 }

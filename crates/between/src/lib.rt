@@ -79,12 +79,10 @@ pub fn lay(s: Seam, points: &mut [[u32; 9]]) -> usize
     if points.len() < n as usize {
         return 0;
     }
-    let mut k: u32 = 0;
-    while k < n {
+    for k in 0..n {
         let x = on_the_way(s.x, s.to_x, k, n);
         let y = on_the_way(s.y, s.to_y, k, n);
         points[k as usize] = [x, y, 0, 0, 0, 0, 0, 0, 0];
-        k += 1;
     }
     n as usize
 }

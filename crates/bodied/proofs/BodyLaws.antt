@@ -10,8 +10,8 @@ use lib.Dec.{eqb}
 use lib.Seq.{sets, sets-eq, take-length}
 use Rattle.fields.specs.Choice.{pick}
 use Rattle.fields.proofs.FieldLaws.{pick_yes, pick_no}
-use Rattle.table.specs.declared.ItemRow.{ItemRow}
-use Rattle.boxes.specs.Answer.{Answer, ok, ◌>>=◌}
+use Rattle.std.specs.Prelude.{Result, Ok, Err}
+use Rattle.boxes.specs.Answer.{Answer, ok, refuse, ◌>>=◌}
 use Rattle.boxes.specs.Types.{iden, derived, image}
 use Rattle.boxes.specs.declared.Refusal.{Refusal}
 use Rattle.contents.specs.File.{File}
@@ -27,26 +27,23 @@ use Rattle.joining.specs.inner.Lies.{place_of, Sourced, bytes_of}
 use Rattle.derived.specs.inner.Told.{Followed}
 use Rattle.derived.proofs.JoinedLaws.{size-told, size-known, joined-part}
 use Rattle.derived.proofs.RecipeLaws.{fed-body}
-use Rattle.asked.specs.Told.{told_pictured}
-use Rattle.asked.specs.declared.Pictured.TheVariants as pictures
-use Rattle.asked.proofs.PicturedLaws.{picture-listed, picture-image, pictured-refused, pictured-row}
+use Rattle.asked.proofs.PicturedLaws.{picture-listed, picture-image}
 use Rattle.bodied.specs.Body.{has_body, body_in, buffer_after}
 use Rattle.bodied.specs.Told.{told_bodied}
-use Rattle.bodied.specs.declared.Bodied.TheVariants as bodied
 
 -- a is the body where there is one, has whether there is
 none-put : (a : Answer (List ℕ)) (buffer : List ℕ) (has : Bool) → has ≡ false →
-    (bodied.Is 0 ≡ told_bodied (pick has a (ok []))) × (buffer ≡ buffer_after (pick has a (ok [])) buffer)
+    (Ok 0 ≡ told_bodied (pick has a (ok []))) × (buffer ≡ buffer_after (pick has a (ok [])) buffer)
 unfolding told_bodied buffer_after
 none-put a buffer has e = rw (pick_no a (ok []) e) (refl, refl)
 
 body-put : (a : Answer (List ℕ)) (buffer out b : List ℕ) (n : ℕ) (has : Bool) → has ≡ true → a ≡ ok b → n ≡ length b →
     length b ≤ length buffer → out ≡ sets buffer 0 (take n (drop 0 b)) →
-    (bodied.Is n ≡ told_bodied (pick has a (ok []))) × (out ≡ buffer_after (pick has a (ok [])) buffer)
+    (Ok n ≡ told_bodied (pick has a (ok []))) × (out ≡ buffer_after (pick has a (ok [])) buffer)
 unfolding told_bodied buffer_after
 body-put a buffer out b n has e z q l o =
     rw (pick_yes a (ok []) e, z) (
-      ap bodied.Is q,
+      ap (λ (k : ℕ). Ok k) q,
       o ∙ ap (λ (k : ℕ). sets buffer 0 (take k b)) q ∙ ap (sets buffer 0) (take-length b) ∙ sets-eq b buffer 0 (omega arith)
           ∙ ap (λ (k : ℕ). b ++ drop k buffer) (zero-add (length b)),
     )
@@ -65,7 +62,7 @@ module _ {t rows head : List ℕ} {total : ℕ} {f : File} (w : Followed t rows 
   its r = pick (has_body (item_at f r).type) (body_of total head f (id_of f r)) (ok [])
 
   abbrev Put : ℕ → ℕ → List ℕ → Type 0
-  Put r n out = (bodied.Is n ≡ told_bodied (its r)) × (out ≡ buffer_after (its r) buffer)
+  Put r n out = (Ok n ≡ told_bodied (its r)) × (out ≡ buffer_after (its r) buffer)
 
   -- put_body: kind is the type that the table has
   module _ (r : ℕ) (h : r < length f.items) (kind : ℕ) (typed : r < 256 → kind ≡ record_word t r 1) (has : Bool) (told : has ≡ has_body kind) where
@@ -93,17 +90,16 @@ module _ {t rows head : List ℕ} {total : ℕ} {f : File} (w : Followed t rows 
           (joined-part w r h known.0 known.1 0 n (omega (arith, long)) buffer out body-fits copied)
 
   -- body_in
-  abbrev Told : ℕ → bodied.the_data → List ℕ → Type 0
+  abbrev Told : ℕ → Result ℕ Refusal → List ℕ → Type 0
   Told id x out = (x ≡ told_bodied (body_in total head f id)) × (out ≡ buffer_after (body_in total head f id) buffer)
 
-  pub body_off : (id : ℕ) (y : Refusal) → told_pictured (pictured f id) ≡ pictures.Refused y → Told id (bodied.Refused y) buffer
+  pub body_off : (id : ℕ) (y : Refusal) → pictured f id ≡ refuse y.number y.place → Told id (Err y) buffer
   unfolding body_in ◌>>=◌ told_bodied buffer_after
-  body_off id y e = let z = pictured-refused (pictured f id) y e in (rw z, rw z)
+  body_off id y e = (rw e, rw e)
 
-  pub body-on : (id : ℕ) (row : ItemRow) → told_pictured (pictured f id) ≡ pictures.At row → (n : ℕ) (out : List ℕ) →
-      (row.0 < length f.items → image (item_at f row.0).type ≡ true → Put row.0 n out) → Told id (bodied.Is n) out
+  pub body-on : (id row : ℕ) → pictured f id ≡ ok row → (n : ℕ) (out : List ℕ) →
+      (row < length f.items → image (item_at f row).type ≡ true → Put row n out) → Told id (Ok n) out
   unfolding body_in ◌>>=◌
   body-on id row e n out put =
-      let z = pictured-row (pictured f id) row e in
-      let p = put (picture-listed f id row.0 z) (picture-image f id row.0 z) in
-      (rw z p.0, rw z p.1)
+      let p = put (picture-listed f id row e) (picture-image f id row e) in
+      (rw e p.0, rw e p.1)

@@ -1,7 +1,7 @@
 // The body of a picture, asked of the table of an accepted file (document 02, Q-7).
 #![tactic(auto)]
 
-ghost use Rattle.std.specs.Prelude.{◌≡◌, true, [], ℕ, ◌≤◌, ◌<◌, length};
+ghost use Rattle.std.specs.Prelude.{◌≡◌, true, [], ℕ, ◌≤◌, ◌<◌, length, Ok};
 ghost use Rattle.fields.specs.Choice.{pick};
 ghost use Rattle.boxes.specs.Types.{image};
 ghost use Rattle.boxes.specs.Answer.{ok};
@@ -12,34 +12,19 @@ ghost use Rattle.views.specs.inner.View.{AllFed};
 ghost use Rattle.derived.specs.inner.Told.{Followed};
 ghost use Rattle.bodied.specs.Body.{has_body, body_in, buffer_after};
 ghost use Rattle.bodied.specs.Told.{told_bodied};
-ghost use Rattle.bodied.specs.declared.Bodied.TheVariants.{Is};
 
-use asked::Pictured;
 use boxes::Refusal;
+use boxes::types::{GRID, IOVL};
 use table::{ItemId, ItemRow};
-
-// The length of the body, which stands first in the buffer.
-#[derive(Drop)]
-pub enum Bodied {
-    Is(usize),
-    Refused(Refusal),
-}
 
 // The shortest buffer: no body is longer.
 pub const LONGEST: usize = 16402;
-
-const GRID: u32 = 0x67726964;
-
-const IOVL: u32 = 0x696f766c;
 
 // Whether a picture of this type has a body: coded ones and `iden` have none.
 fn has_body(kind: u32) -> bool
     ensures { result ≡ has_body kind }
 {
-    if kind == GRID {
-        return true;
-    }
-    kind == IOVL
+    kind == GRID || kind == IOVL
 }
 
 // The body of the picture in a row, to the front of a buffer that is long enough for every body: its length. None is longer in an
@@ -47,7 +32,7 @@ fn has_body(kind: u32) -> bool
 fn put_body(head: &[u8], table: &[u32], rows: &[u32], row: ItemRow, buffer: &mut [u8]) -> usize
     ensures { (total : ℕ) (f : File) → Followed table.now rows.now head.now total f →
         AllFed total head.now f → 16402 ≤ length buffer.old → row.0 < length f.items → image (item_at f row.0).type ≡ true →
-        (Is result ≡ told_bodied (pick (has_body (item_at f row.0).type) (body_of total head.now f (item_at f row.0).id) (ok []))) ×
+        (Ok result ≡ told_bodied (pick (has_body (item_at f row.0).type) (body_of total head.now f (item_at f row.0).id) (ok []))) ×
         (buffer.new ≡ buffer_after (pick (has_body (item_at f row.0).type)
         (body_of total head.now f (item_at f row.0).id) (ok [])) buffer.old) }
 {
@@ -62,16 +47,19 @@ fn put_body(head: &[u8], table: &[u32], rows: &[u32], row: ItemRow, buffer: &mut
     n as usize
 }
 
-// The body of an item of an accepted file's table, into a buffer: 21, then 22.
-pub fn body_in(head: &[u8], table: &[u32], rows: &[u32], id: ItemId, buffer: &mut [u8]) -> Bodied
+// The body of an item of an accepted file's table, to the front of a buffer, and its length: 21, then 22.
+pub fn body_in(
+    head: &[u8],
+    table: &[u32],
+    rows: &[u32],
+    id: ItemId,
+    buffer: &mut [u8],
+) -> Result<usize, Refusal>
     ensures { (total : ℕ) (f : File) → Followed table.now rows.now head.now total f →
         AllFed total head.now f → 16402 ≤ length buffer.old →
         (result ≡ told_bodied (body_in total head.now f id.0)) ×
         (buffer.new ≡ buffer_after (body_in total head.now f id.0) buffer.old) }
 {
-    let p = asked::picture_row(table, id);
-    match p {
-        Pictured::Refused(f) => Bodied::Refused(f),
-        Pictured::At(row) => Bodied::Is(put_body(head, table, rows, row, buffer)),
-    }
+    let row = asked::picture_row(table, id)?;
+    Ok(put_body(head, table, rows, row, buffer))
 }

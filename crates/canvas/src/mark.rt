@@ -4,7 +4,7 @@ ghost use Rattle.std.specs.Prelude.{◌<◌};
 use crate::number::{put, put_fraction, put_kind, put_raised, put_times, put_with};
 use crate::pose::{put_middle, put_pose, put_upright};
 use crate::turn::put_holed;
-use layout::{Margins, Part, Pose, across_of, down_of, least, less, uncut};
+use layout::{Margins, Part, Pose, across_of, down_of, uncut};
 use pictures::Size;
 
 fn put_size(s: Size) {
@@ -113,10 +113,7 @@ pub fn put_arrow(part: Part, pose: Pose, scale: u32) {
     let down = down_of(part, pose);
     put(b"<use xlink:href='#up' transform='");
     put_place(part, pose, across * 170000, down * 170000, false);
-    put_fraction(
-        b" scale(",
-        least(least(across, down) * 5500, scale as u64 * 3),
-    );
+    put_fraction(b" scale(", (across.min(down) * 5500).min(scale as u64 * 3));
     put(b")'/>\n");
 }
 
@@ -164,10 +161,10 @@ pub fn put_kept(part: Part, pose: Pose, s: Size, m: Margins, scale: u32, up: boo
     let frame = uncut(s, m);
     let across = across_of(part, pose);
     let down = down_of(part, pose);
-    let side = least(least(across, down) * 300000, scale as u64 * 40);
+    let side = (across.min(down) * 300000).min(scale as u64 * 40);
     let inset = side * 6 / 10;
-    let right = less(across * 500000, inset);
-    let below = less(down * 500000, inset);
+    let right = (across * 500000).saturating_sub(inset);
+    let below = (down * 500000).saturating_sub(inset);
     put(b"<g transform='");
     put_place(part, pose, right, below, up);
     put_small(frame, s, m, scale, ratio(side, longest(frame)));

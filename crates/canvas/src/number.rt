@@ -52,37 +52,18 @@ pub fn put_raised(n: u64) {
     put_number(n - ZERO);
 }
 
-fn is_between(n: u32, first: u32, last: u32) -> bool {
-    if n < first {
-        return false;
-    }
-    n <= last
-}
-
-fn is_letter(n: u32) -> bool {
-    if is_between(n, 48, 57) {
-        return true;
-    }
-    if is_between(n, 65, 90) {
-        return true;
-    }
-    is_between(n, 97, 122)
-}
-
 // A letter or digit, and a dot for all else, which may mean something in SVG.
-fn put_letter(n: u32) {
-    if n < 256 {
-        if is_letter(n) {
-            return put(&[n as u8]);
-        }
+fn put_letter(b: u8) {
+    if b.is_ascii_alphanumeric() {
+        put(&[b]);
+    } else {
+        put(b".");
     }
-    put(b".");
 }
 
 // The four letters of a type.
 pub fn put_kind(kind: u32) {
-    put_letter(kind / 16777216);
-    put_letter(kind / 65536 % 256);
-    put_letter(kind / 256 % 256);
-    put_letter(kind % 256);
+    for b in kind.to_be_bytes() {
+        put_letter(b);
+    }
 }

@@ -4,7 +4,7 @@ ghost use Rattle.canvas.specs.inner.Scale.{scale_of};
 
 use crate::number::{put, put_fraction, put_number, put_with};
 use crate::pose::put_upright;
-use layout::{Margins, Pose, least, uncut};
+use layout::{Margins, Pose, uncut};
 use pictures::Size;
 
 // A page of 1,200 by so many steps on the screen.
@@ -42,9 +42,9 @@ pub fn scale_of(frame: Size) -> u32
     let across = frame.wide as u64 * 1000000 / 1140;
     let down = frame.high as u64 * 1000000 / 800;
     if across < down {
-        return least(down, 4294967295) as u32;
+        return down.min(4294967295) as u32;
     }
-    least(across, 4294967295) as u32
+    across.min(4294967295) as u32
 }
 
 // The arrow, and the patterns of what is cut away and of fill, as the legend has them.
@@ -80,10 +80,8 @@ fn put_scaled(scale: u32) {
         scale as u64 * 6,
     );
     put(b"}</style>\n");
-    let mut pose: u32 = 0;
-    while pose < 8 {
+    for pose in 0..8 {
         put_fill_pattern(pose, scale);
-        pose += 1;
     }
 }
 

@@ -3,7 +3,7 @@ ghost use Rattle.std.specs.Prelude.{◌≤◌};
 
 use crate::number::{put, put_fraction, put_kind, put_number, put_times, put_with};
 use crate::pose::{put_middle, put_upright};
-use layout::{Part, Pose, across_of, down_of, least};
+use layout::{Part, Pose, across_of, down_of};
 use pictures::Turn;
 
 // At the left edge of what is seen of a picture, at its bottom or at its top, in steps of so many millionths.
@@ -42,7 +42,7 @@ pub fn open_coded_tag(part: Part, pose: Pose, id: u32, kind: u32, scale: u32) {
         part,
         pose,
         false,
-        least(least(across, down), scale as u64 * 12 / 10),
+        across.min(down).min(scale as u64 * 12 / 10),
     );
     put_with(b"20'>", id);
     put(b"</text><text class='low' x='4' y='37'>");
@@ -52,8 +52,8 @@ pub fn open_coded_tag(part: Part, pose: Pose, id: u32, kind: u32, scale: u32) {
 
 // The tag of a derived picture, above the tags of so many of its copies.
 pub fn open_derived_tag(part: Part, pose: Pose, id: u32, kind: u32, scale: u32, copies: u32) {
-    let side = least(across_of(part, pose), down_of(part, pose));
-    open_corner(part, pose, true, least(side * 5000, scale as u64 * 8 / 10));
+    let side = across_of(part, pose).min(down_of(part, pose));
+    open_corner(part, pose, true, (side * 5000).min(scale as u64 * 8 / 10));
     put(b"-");
     put_number(copies as u64 * 24 + 6);
     put_with(b"'>", id);

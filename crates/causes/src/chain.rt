@@ -24,21 +24,20 @@ fn next_of(table: &[u32], rows: &[u32], links: &[u8], row: ItemRow) -> u32 {
     if views::record_word(table, row, 9) != 2 {
         return ENDED;
     }
-    let mut e = views::record_word(table, row, 7) as usize;
-    let end = e + (views::record_word(table, row, 8) as usize);
+    let first = views::record_word(table, row, 7) as usize;
+    let end = first + (views::record_word(table, row, 8) as usize);
     if 512 < end {
         return ENDED;
     }
     let mut furthest: u32 = 0;
     let mut next = ENDED;
-    while e < end {
+    for e in first..end {
         let x = table::word(rows, 2304 + e);
         let far = reach(links, x);
         if furthest < far {
             furthest = far;
             next = x;
         }
-        e += 1;
     }
     next
 }
@@ -46,13 +45,11 @@ fn next_of(table: &[u32], rows: &[u32], links: &[u8], row: ItemRow) -> u32 {
 // Whether one of the first n items of the chain from a row on is the one in a row.
 fn is_passed(table: &[u32], rows: &[u32], links: &[u8], row: ItemRow, n: u32, sought: u32) -> bool {
     let mut at = row.0;
-    let mut k: u32 = 0;
-    while k < n {
+    for _ in 0..n {
         if at == sought as usize {
             return true;
         }
         at = next_of(table, rows, links, ItemRow(at)) as usize;
-        k += 1;
     }
     false
 }
@@ -80,8 +77,7 @@ fn print_missing(fd: i32, table: &[u32], row: ItemRow, x: u32) {
 // `, 5 from 7`, then ` from 8`: the chain from a row on, to the link that is missing, to an item that it passed, or a link too far.
 fn print_links(fd: i32, table: &[u32], rows: &[u32], links: &[u8], row: ItemRow) {
     let mut at = row;
-    let mut k: u32 = 0;
-    while k < MOST_LINKS {
+    for k in 0..MOST_LINKS {
         let x = next_of(table, rows, links, at);
         if x == ENDED {
             return say(fd, b": more than 8 deep");
@@ -96,8 +92,7 @@ fn print_links(fd: i32, table: &[u32], rows: &[u32], links: &[u8], row: ItemRow)
         say(fd, b" from ");
         at = ItemRow(x as usize);
         print_id(fd, table, at);
-        k += 1;
-        if is_passed(table, rows, links, row, k, x) {
+        if is_passed(table, rows, links, row, k + 1, x) {
             return say(fd, b": it goes round");
         }
     }
@@ -107,13 +102,7 @@ fn print_links(fd: i32, table: &[u32], rows: &[u32], links: &[u8], row: ItemRow)
 // What following its links tells of each item, as far as they were read.
 fn links_for(table: &[u32], rows: &[u32]) -> [u8; 256] {
     let n = views::item_count(table);
-    if 256 < n {
-        return [0; 256];
-    }
-    if rows.len() < 2816 {
-        return [0; 256];
-    }
-    if table.len() < Table::WORDS {
+    if 256 < n || rows.len() < 2816 || table.len() < Table::WORDS {
         return [0; 256];
     }
     linking::links_of(table, rows, n)

@@ -1,10 +1,7 @@
 // Refusals 3 and 6 to 11: what the box at the place says itself, and where it lies.
-use boxes::{Child, FoundMeta, Header, Refusal, Spot};
+use boxes::types::{ILOC, INFE};
+use boxes::{Child, Refusal, Spot};
 use words::say;
-
-const INFE: u32 = 0x696e6665;
-
-const ILOC: u32 = 0x696c6f63;
 
 // Where a place lies in the file.
 #[derive(Drop)]
@@ -30,17 +27,11 @@ fn is_nowhere(spot: Spot) -> bool {
 }
 
 fn is_at(spot: Spot, at: usize) -> bool {
-    if is_nowhere(spot) {
-        return false;
-    }
-    spot.start == at
+    !is_nowhere(spot) && spot.start == at
 }
 
 fn is_within(spot: Spot, at: usize) -> bool {
-    if at <= spot.start {
-        return false;
-    }
-    at < spot.end
+    spot.start < at && at < spot.end
 }
 
 // Where the first box of a part of s ends, 0 where it has none.
@@ -48,13 +39,8 @@ fn first_end(s: &[u8], body: usize, end: usize) -> usize {
     if end < body {
         return 0;
     }
-    let c = boxes::child_at(views::part(s, body, end - body), 0);
-    match c {
-        Child::Whole {
-            kind: _,
-            body: _,
-            end,
-        } => end,
+    match boxes::child_at(views::part(s, body, end - body), 0) {
+        Child::Whole { end, .. } => end,
         _ => 0,
     }
 }
@@ -98,20 +84,10 @@ fn region_among(s: &[u8], spots: [Spot; 7], at: usize) -> Region {
 
 // The number of the first of five boxes that is not there, or 5.
 fn lacking(spots: [Spot; 7]) -> usize {
-    if is_nowhere(spots[0]) {
-        return 0;
-    }
-    if is_nowhere(spots[1]) {
-        return 1;
-    }
-    if is_nowhere(spots[2]) {
-        return 2;
-    }
-    if is_nowhere(spots[3]) {
-        return 3;
-    }
-    if is_nowhere(spots[4]) {
-        return 4;
+    for k in 0..5 {
+        if is_nowhere(spots[k]) {
+            return k;
+        }
     }
     5
 }
@@ -124,8 +100,13 @@ fn region_inside(s: &[u8], start: usize, base: usize, place: usize) -> Region {
     if 65536 < base {
         return Region::Inside;
     }
-    let family = boxes::walk_children(s, start, base);
-    let spots = family.spots;
+    // Where the children are refused themselves, none is known.
+    let nowhere = Spot {
+        start: 0,
+        body: 0,
+        end: 0,
+    };
+    let spots = boxes::walk_children(s, start, base).unwrap_or([nowhere; 7]);
     if place == start {
         return Region::Meta(lacking(spots));
     }
@@ -136,33 +117,27 @@ fn region_inside(s: &[u8], start: usize, base: usize, place: usize) -> Region {
 }
 
 fn region_of(head: &[u8], total: u64, place: usize) -> Region {
-    let m = boxes::find_meta(head, total);
-    match m {
-        FoundMeta::Refused(_) => Region::Outside,
-        FoundMeta::At { start, body, end } => {
-            // Its version and flags come first.
-            if 65536 < body {
-                return Region::Inside;
-            }
-            let base = body + 4;
-            if end < base {
-                return Region::Inside;
-            }
-            region_inside(views::part(head, base, end - base), start, base, place)
-        }
+    let Ok(meta) = boxes::find_meta(head, total) else {
+        return Region::Outside;
+    };
+    let body = meta.body;
+    let end = meta.end;
+    // Its version and flags come first.
+    if 65536 < body {
+        return Region::Inside;
     }
+    let base = body + 4;
+    if end < base {
+        return Region::Inside;
+    }
+    region_inside(views::part(head, base, end - base), meta.start, base, place)
 }
 
 // Where `meta` ends, 0 where there is none.
 fn meta_end(head: &[u8], total: u64) -> usize {
-    let m = boxes::find_meta(head, total);
-    match m {
-        FoundMeta::Refused(_) => 0,
-        FoundMeta::At {
-            start: _,
-            body: _,
-            end,
-        } => end,
+    match boxes::find_meta(head, total) {
+        Ok(meta) => meta.end,
+        Err(_) => 0,
     }
 }
 
@@ -205,14 +180,9 @@ fn print_long(fd: i32, head: &[u8], total: u64, place: u64, size: u64) {
 
 // The length of the header of the box at a place, 0 where it is not whole.
 fn header_length(head: &[u8], at: usize) -> usize {
-    let h = boxes::header_at(head, at);
-    match h {
-        Header::Cut => 0,
-        Header::Whole {
-            kind: _,
-            head: n,
-            size: _,
-        } => n,
+    match boxes::header_at(head, at) {
+        Some(h) => h.head,
+        None => 0,
     }
 }
 
@@ -231,23 +201,16 @@ fn print_wide(fd: i32, head: &[u8], total: u64, place: u64, size: u64) {
 }
 
 fn print_size(fd: i32, head: &[u8], total: u64, place: u64) {
-    let h = boxes::header_at(head, place as usize);
-    match h {
-        Header::Cut => words::print_words(fd, 3),
-        Header::Whole {
-            kind: _,
-            head: n,
-            size,
-        } => {
-            if n == 16 {
-                return print_wide(fd, head, total, place, size);
-            }
-            if size < n as u64 {
-                return print_impossible(fd, size);
-            }
-            print_long(fd, head, total, place, size)
-        }
+    let Some(h) = boxes::header_at(head, place as usize) else {
+        return words::print_words(fd, 3);
+    };
+    if h.head == 16 {
+        return print_wide(fd, head, total, place, h.size);
     }
+    if h.size < h.head as u64 {
+        return print_impossible(fd, h.size);
+    }
+    print_long(fd, head, total, place, h.size)
 }
 
 // The content of the box at a place, as far as the head goes.
@@ -365,30 +328,15 @@ fn print_entry(fd: i32, head: &[u8], at: usize) {
 }
 
 fn is_width(n: u8) -> bool {
-    if n == 0 {
-        return true;
-    }
-    if n == 4 {
-        return true;
-    }
-    n == 8
+    matches!(n, 0 | 4 | 8)
 }
 
 // Whether an `iloc` has field sizes that there are: that of the index counts from version 1 on.
 fn has_widths(version: u8, first: u8, second: u8) -> bool {
-    if !is_width(first / 16) {
-        return false;
-    }
-    if !is_width(first % 16) {
-        return false;
-    }
-    if !is_width(second / 16) {
-        return false;
-    }
-    if version == 0 {
-        return true;
-    }
-    is_width(second % 16)
+    is_width(first / 16)
+        && is_width(first % 16)
+        && is_width(second / 16)
+        && (version == 0 || is_width(second % 16))
 }
 
 // A field size that there is not, or else an ID twice.

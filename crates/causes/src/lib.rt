@@ -7,10 +7,9 @@ mod chain;
 mod in_box;
 mod of_item;
 
+use boxes::types::FTYP;
 use boxes::{Refusal, TopBox};
 use words::{PlaceKind, say};
-
-const FTYP: u32 = 0x66747970;
 
 // 4 of a first box that is whole, by its type and the place where its content begins and ends.
 fn print_first(fd: i32, kind: u32, body: usize, end: usize) {

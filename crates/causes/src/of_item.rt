@@ -3,16 +3,9 @@ ghost use Rattle.std.specs.Prelude.{◌≡◌, length};
 
 use crate::chain;
 use boxes::Refusal;
-use reading::FileRead;
-use records::FoundRow;
+use boxes::types::{HVCC, IDEN, ISPE};
 use table::{ItemId, ItemRow};
 use words::say;
-
-const HVCC: u32 = 0x68766343;
-
-const ISPE: u32 = 0x69737065;
-
-const IDEN: u32 = 0x6964656e;
 
 // The longest body.
 const LONGEST: u64 = 16402;
@@ -77,19 +70,7 @@ fn print_reach(fd: i32, table: &[u32], rows: &[u32], row: ItemRow, total: u64) {
     say(fd, b" bytes");
 }
 
-// What is looked for among an item's properties, or among its inputs.
-#[derive(Clone, Copy)]
-enum Sought {
-    // An essential property that this reader does not know.
-    Unknown,
-    Hvcc,
-    Ispe,
-    // A turn or crop.
-    Transform,
-    // An input that is no picture.
-    Opaque,
-}
-
+// An essential property that this reader does not know.
 fn is_unknown(table: &[u32], row: ItemRow, j: usize) -> bool {
     if views::association_of(table, row, j) < 32768 {
         return false;
@@ -99,33 +80,27 @@ fn is_unknown(table: &[u32], row: ItemRow, j: usize) -> bool {
 
 // Whether an ID names a picture.
 fn is_picture(table: &[u32], id: ItemId) -> bool {
-    let found = views::row_named(table, id, ItemRow(0));
-    match found {
-        FoundRow::Nothing => false,
-        FoundRow::At(row) => views::is_image(views::type_of(table, row)),
+    match views::row_named(table, id, ItemRow(0)) {
+        Some(row) => views::is_image(views::type_of(table, row)),
+        None => false,
     }
 }
 
-fn is_sought(table: &[u32], row: ItemRow, sought: Sought, j: usize) -> bool {
-    match sought {
-        Sought::Unknown => is_unknown(table, row, j),
-        Sought::Hvcc => declared::kind_of(table, row, j) == HVCC,
-        Sought::Ispe => declared::kind_of(table, row, j) == ISPE,
-        Sought::Transform => declared::is_transform(declared::kind_of(table, row, j)),
-        Sought::Opaque => !is_picture(table, views::target_of(table, row, j)),
-    }
-}
-
-// The first place of what is sought from a place on, of n places; n where there is none.
-fn first_from(table: &[u32], row: ItemRow, sought: Sought, from: usize, n: usize) -> usize {
-    let mut j = from;
-    while j < n {
-        if is_sought(table, row, sought, j) {
+// The first of the places from `from` on, of n, at which what is sought stands; n where there is none.
+fn first_from<F: Fn(usize) -> bool>(from: usize, n: usize, is_sought: F) -> usize
+    requires { F.IsAlwaysCallable is_sought }
+{
+    for j in from..n {
+        if is_sought(j) {
             return j;
         }
-        j += 1;
     }
     n
+}
+
+// The first property of a type.
+fn first_of_type(table: &[u32], row: ItemRow, kind: u32, from: usize, n: usize) -> usize {
+    first_from(from, n, |j| declared::kind_of(table, row, j) == kind)
 }
 
 // 15: protected, or a property that is needed and not known.
@@ -134,7 +109,7 @@ fn print_need(fd: i32, table: &[u32], row: ItemRow) {
         return say(fd, b"is protected");
     }
     let n = declared::property_count(table, row);
-    let kind = declared::kind_of(table, row, first_from(table, row, Sought::Unknown, 0, n));
+    let kind = declared::kind_of(table, row, first_from(0, n, |j| is_unknown(table, row, j)));
     if kind == 0 {
         return say(
             fd,
@@ -149,11 +124,11 @@ fn print_need(fd: i32, table: &[u32], row: ItemRow) {
 // 29: no configuration, several, or one that is not marked essential.
 fn print_configuration(fd: i32, table: &[u32], row: ItemRow) {
     let n = declared::property_count(table, row);
-    let first = first_from(table, row, Sought::Hvcc, 0, n);
+    let first = first_of_type(table, row, HVCC, 0, n);
     if n <= first {
         return say(fd, b"has no decoder configuration (`hvcC`)");
     }
-    if first_from(table, row, Sought::Hvcc, first + 1, n) < n {
+    if first_of_type(table, row, HVCC, first + 1, n) < n {
         return say(fd, b"has its decoder configuration (`hvcC`) more than once");
     }
     say(
@@ -165,15 +140,19 @@ fn print_configuration(fd: i32, table: &[u32], row: ItemRow) {
 // 16: no size, several, or one behind a turn or crop.
 fn print_size(fd: i32, table: &[u32], row: ItemRow) {
     let n = declared::property_count(table, row);
-    let first = first_from(table, row, Sought::Ispe, 0, n);
+    let first = first_of_type(table, row, ISPE, 0, n);
     if n <= first {
         return say(fd, b"does not say its size (it has no `ispe`)");
     }
-    if first_from(table, row, Sought::Ispe, first + 1, n) < n {
+    if first_of_type(table, row, ISPE, first + 1, n) < n {
         return say(fd, b"says its size more than once (`ispe`)");
     }
     say(fd, b"says its size (`ispe`) only after its `");
-    let j = first_from(table, row, Sought::Transform, 0, n);
+    let j = first_from(
+        0,
+        n,
+        |j| declared::is_transform(declared::kind_of(table, row, j)),
+    );
     words::print_kind(fd, declared::kind_of(table, row, j));
     say(fd, b"`");
 }
@@ -213,7 +192,11 @@ fn print_inputs(fd: i32, table: &[u32], row: ItemRow, total: u64) {
     if n == 0 {
         return say(fd, b"is to be made from others, and has no inputs");
     }
-    let j = first_from(table, row, Sought::Opaque, 0, n);
+    let j = first_from(
+        0,
+        n,
+        |j| !is_picture(table, views::target_of(table, row, j)),
+    );
     if j < n {
         say(fd, b"is made from item ");
         let id = views::target_of(table, row, j);
@@ -240,11 +223,10 @@ fn print_of(fd: i32, table: &[u32], rows: &[u32], row: ItemRow, total: u64, numb
 
 fn print_listed(fd: i32, table: &[u32], rows: &[u32], total: u64, f: Refusal) {
     let id = ItemId((f.place % 4294967296) as u32);
-    let found = views::row_named(table, id, ItemRow(0));
-    match found {
-        FoundRow::At(row) => print_of(fd, table, rows, row, total, f.number),
+    match views::row_named(table, id, ItemRow(0)) {
+        Some(row) => print_of(fd, table, rows, row, total, f.number),
         // 12 and 21.
-        FoundRow::Nothing => say(fd, b"is not listed"),
+        None => say(fd, b"is not listed"),
     }
 }
 
@@ -252,12 +234,8 @@ fn print_listed(fd: i32, table: &[u32], rows: &[u32], total: u64, f: Refusal) {
 pub fn print_cause(fd: i32, head: &[u8], total: u64, f: Refusal) {
     let mut table = new_table();
     let mut rows = new_rows();
-    let r = reading::read_file(head, total, &mut table, &mut rows);
-    match r {
-        FileRead::Refused(_) => words::print_words(fd, f.number),
-        FileRead::Is {
-            idat: _,
-            idat_end: _,
-        } => print_listed(fd, &table, &rows, total, f),
+    match reading::read_file(head, total, &mut table, &mut rows) {
+        Ok(_) => print_listed(fd, &table, &rows, total, f),
+        Err(_) => words::print_words(fd, f.number),
     }
 }

@@ -1,7 +1,7 @@
 -- Reading version and flags, `hdlr` and `pitm`, one way out at a time. Assumes nothing.
 use Prim.Native.Nat.{ℕ, ◌+◌, ◌≤◌, ◌<◌}
 use native.Mathlib.Omega.{arith}
-use mathlib.Core.Path.{◌≡◌, refl, sym, ap, ◌∙◌}
+use mathlib.Core.Path.{◌≡◌, refl, sym, ap, subst, ◌∙◌}
 use mathlib.Core.List.{List, ◌++◌, append-nil}
 use mathlib.Core.Bool.{Bool, true, false}
 use mathlib.Core.Logic.{◌⊎◌, inl, inr, ⊎_elim}
@@ -10,10 +10,9 @@ use lib.ListN.{length, drop, length-append}
 use lib.Dec.{leb, eqb}
 use borrow.Author.Tests.{eq-eqb, ne_eqb, le-leb, lt-leb}
 use Rattle.fields.specs.Field.{be_at}
-use Rattle.boxes.specs.Answer.{Answer, ok, refuse}
+use Rattle.boxes.specs.Answer.{ok, refuse}
 use Rattle.boxes.specs.Types.{pict}
-use Rattle.forms.specs.Form.{Got, got, give, demand, field, whole, front, ◌>>=◌}
-use Rattle.boxes.specs.declared.Refusal.{Refusal}
+use Rattle.forms.specs.Form.{got, give, demand, field, whole, front, ◌>>=◌}
 use Rattle.forms.proofs.StepLaws.{
   reads,
   over,
@@ -37,8 +36,10 @@ use Rattle.fields.proofs.TestLaws.{and_none}
 use Rattle.contents.specs.Full.{Full, full, between, upto, id_bytes}
 use Rattle.contents.specs.Hdlr.{hdlr_form}
 use Rattle.contents.specs.Pitm.{pitm_form}
-use Rattle.contents.specs.inner.Told.{told_full}
-use Rattle.contents.specs.declared.FullRead.TheVariants.{Is, Refused}
+use Rattle.std.specs.Prelude.{Ok}
+use Rattle.boxes.specs.Told.{told}
+use Rattle.contents.specs.inner.Told.{full_of}
+use Rattle.contents.specs.declared.Full as code
 
 -- between
 pub between-low : (a b v w : ℕ) → v ≡ w → v < a → between a b w ≡ false
@@ -95,53 +96,37 @@ full_out allowed l v h =
           ∙ sym (be_past j.left k.left 1 0 3 x) ∙ ap (λ (r : List ℕ). be_at r 1 3) e,
     )
 
--- told_full: what the code's value says of the bytes
-pub record FullHere (a : ℕ → Bool) (p : ℕ) (s : List ℕ) (v f : ℕ) : Type 0 where
+-- What the code's value says of the bytes.
+pub record FullHere (a : ℕ → Bool) (p : ℕ) (s : List ℕ) (h : code.Full) : Type 0 where
   pub room : 4 ≤ length s
-  pub version : v ≡ be_at s 0 1
-  pub flags : f ≡ be_at s 1 3
-  pub allowed : a v ≡ true
-  pub read : (full a).read p s ≡ got (record { version = v; flags = f }) (drop 4 s)
+  pub version : h.version ≡ be_at s 0 1
+  pub flags : h.flags ≡ be_at s 1 3
+  pub allowed : a h.version ≡ true
+  pub read : (full a).read p s ≡ got (record { version = h.version; flags = h.flags }) (drop 4 s)
 
 module _ (a : ℕ → Bool) (p : ℕ) (s : List ℕ) where
-  no_full : (n q v f : ℕ) {P : Type 0} → told_full (refuse n q) ≡ Is v f → P
-  unfolding told_full
-  no_full n q v f e = let z : ◌≡◌ {A = ℕ} 0 1 = cc in absurd (omega arith)
-
-  by_length : (v f : ℕ) → 4 ≤ length s → (c : Bool) → a (be_at s 0 1) ≡ c → told_full ((full a).read p s) ≡ Is v f → FullHere a p s v f
-  unfolding told_full
-  by_length v f l true e h =
+  by_length : (h : code.Full) → 4 ≤ length s → (c : Bool) → a (be_at s 0 1) ≡ c → told full_of ((full a).read p s) ≡ Ok h → FullHere a p s h
+  unfolding told
+  by_length h l true e k =
       let g = full_is a p s l e in
-      let k : Is (be_at s 0 1) (be_at s 1 3) ≡ Is v f = sym (ap told_full g) ∙ h in
-      let i : be_at s 0 1 ≡ v = cc in
-      let j : be_at s 1 3 ≡ f = cc in
-      record { room = l; version = sym i; flags = sym j; allowed = rw (← i) e; read = g ∙ rw (i, j) }
-  by_length v f l false e h = no_full 6 p v f (sym (ap told_full (full-version a p s (omega arith) e)) ∙ h)
+      let i : record { version = be_at s 0 1; flags = be_at s 1 3 } ≡ h = cc in
+      subst (λ (x : code.Full). FullHere a p s x) i (record { room = l; version = refl; flags = refl; allowed = e; read = g })
+  by_length h l false e k = cc (full-version a p s (omega arith) e)
 
-  short : (v f : ℕ) → length s < 4 → (c : Bool) → a (be_at s 0 1) ≡ c → 1 ≤ length s → told_full ((full a).read p s) ≡ Is v f → FullHere a p s v f
-  short v f l true e k h = no_full 8 p v f (sym (ap told_full (full-cut a p s k e l)) ∙ h)
-  short v f l false e k h = no_full 6 p v f (sym (ap told_full (full-version a p s k e)) ∙ h)
+  short : (h : code.Full) → length s < 4 → (c : Bool) → a (be_at s 0 1) ≡ c → 1 ≤ length s → told full_of ((full a).read p s) ≡ Ok h → FullHere a p s h
+  unfolding told
+  short h l true e k t = cc (ap (told full_of) (full-cut a p s k e l))
+  short h l false e k t = cc (ap (told full_of) (full-version a p s k e))
 
-  pub full-here : (v f : ℕ) → told_full ((full a).read p s) ≡ Is v f → FullHere a p s v f
-  full-here v f h =
-      ⊎_elim (λ l. by_length v f l (a (be_at s 0 1)) refl h)
-      (λ l. ⊎_elim (λ k. short v f l (a (be_at s 0 1)) refl k h) (λ k. no_full 8 p v f (sym (ap told_full (full_empty a p s k)) ∙ h)) (at_least 1 (length s)))
+  pub full-here : (h : code.Full) → told full_of ((full a).read p s) ≡ Ok h → FullHere a p s h
+  unfolding told
+  full-here h t =
+      ⊎_elim (λ l. by_length h l (a (be_at s 0 1)) refl t)
+      (λ l. ⊎_elim (λ k. short h l (a (be_at s 0 1)) refl k t) (λ k. cc (ap (told full_of) (full_empty a p s k))) (at_least 1 (length s)))
       (at_least 4 (length s))
     where
       at_least : (m n : ℕ) → (m ≤ n) ⊎ (n < m)
       at_least m n = elim (dec_le m n) [ yes l ↦ inl l | no q ↦ inr (omega (arith, q)) ]
-
-  refused-is : (m : Answer (Got Full)) (n q : ℕ) → told_full m ≡ Refused (record { number = n; place = q }) → m ≡ refuse n q
-  unfolding told_full
-  refused-is (ok g) n q e = let z : ◌≡◌ {A = ℕ} 0 1 = cc in absurd (omega arith)
-  refused-is (refuse x y) n q e =
-      let k : ◌≡◌ {A = Refusal} (record { number = x; place = y }) (record { number = n; place = q }) = cc in
-      let i : x ≡ n = ap (λ (r : Refusal). r.number) k in
-      let j : y ≡ q = ap (λ (r : Refusal). r.place) k in
-      rw (i, j)
-
-  pub full_gone : (n q : ℕ) → told_full ((full a).read p s) ≡ Refused (record { number = n; place = q }) → (full a).read p s ≡ refuse n q
-  full_gone n q e = refused-is _ n q e
 
 -- hdlr-form
 module _ (p : ℕ) (s : List ℕ) where
@@ -149,7 +134,7 @@ module _ (p : ℕ) (s : List ℕ) where
   unfolding hdlr_form
   hdlr_gone n q e = rw (front_reads, reads_bind) (reads_refused (full (upto 0)) p s _ n q e)
 
-  module _ (v f : ℕ) (h : FullHere (upto 0) p s v f) where
+  module _ (v : code.Full) (h : FullHere (upto 0) p s v) where
     pub hdlr-short : length s < 12 → front hdlr_form p s ≡ refuse 8 p
     unfolding hdlr_form
     hdlr-short l =
@@ -179,7 +164,7 @@ module _ (p : ℕ) (s : List ℕ) where
   unfolding pitm_form
   pitm_gone n q e = rw (whole_reads, reads_bind) (reads_refused (full (upto 1)) p s _ n q e)
 
-  module _ (v f : ℕ) (h : FullHere (upto 1) p s v f) (w : ℕ) (width : id_bytes v ≡ w) where
+  module _ (v : code.Full) (h : FullHere (upto 1) p s v) (w : ℕ) (width : id_bytes v.version ≡ w) where
     id-read : whole pitm_form p s ≡ reads (field w >>= (λ x. give x)) p (drop 4 s) (over p)
     unfolding pitm_form
     id-read = rw (whole_reads, reads_bind) (reads_got (full (upto 1)) p s _ _ _ h.read ∙ rw width)

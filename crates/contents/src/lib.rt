@@ -6,93 +6,68 @@ ghost use Rattle.forms.specs.Form.{Form, whole, front};
 ghost use Rattle.contents.specs.Full.{full, between};
 ghost use Rattle.contents.specs.Hdlr.{hdlr_form};
 ghost use Rattle.contents.specs.Pitm.{pitm_form};
-ghost use Rattle.contents.specs.inner.Told.{told_full, told_hdlr, told_pitm};
+ghost use Rattle.boxes.specs.Told.{told};
+ghost use Rattle.contents.specs.inner.Told.{full_of, item_id};
 
 use boxes::Refusal;
+use boxes::types::PICT;
 use table::ItemId;
 
-#[derive(Drop)]
-pub enum FullRead {
-    Is { version: u32, flags: u32 },
-    Refused(Refusal),
+// The version and flags of a box.
+#[derive(Clone, Copy)]
+pub struct Full {
+    pub version: u32,
+    pub flags: u32,
 }
 
 // The version and flags at the front of a content, in a box at a place.
-pub fn read_full(s: &[u8], least: u32, most: u32, place: u64) -> FullRead
-    ensures { result ≡ told_full ((full (between least most)).read place s.now) }
+pub fn read_full(s: &[u8], least: u32, most: u32, place: u64) -> Result<Full, Refusal>
+    ensures { result ≡ told full_of ((full (between least most)).read place s.now) }
 {
     if s.len() < 1 {
-        return FullRead::Refused(Refusal { number: 8, place });
+        return Err(Refusal { number: 8, place });
     }
     let version = fields::be8(s, 0);
     if version < least {
-        return FullRead::Refused(Refusal { number: 6, place });
+        return Err(Refusal { number: 6, place });
     }
     if most < version {
-        return FullRead::Refused(Refusal { number: 6, place });
+        return Err(Refusal { number: 6, place });
     }
     if s.len() < 4 {
-        return FullRead::Refused(Refusal { number: 8, place });
+        return Err(Refusal { number: 8, place });
     }
-    FullRead::Is {
+    Ok(Full {
         version,
         flags: fields::be24(s, 1),
-    }
+    })
 }
 
-#[derive(Drop)]
-pub enum HdlrRead {
-    Pict,
-    Refused(Refusal),
-}
-
-// `pict` as the number that its letters spell.
-const PICT: u32 = 0x70696374;
-
-pub fn read_hdlr(s: &[u8], place: u64) -> HdlrRead
-    ensures { result ≡ told_hdlr (front hdlr_form place s.now) }
+pub fn read_hdlr(s: &[u8], place: u64) -> Result<(), Refusal>
+    ensures { result ≡ told (λ u. u) (front hdlr_form place s.now) }
 {
-    let h = read_full(s, 0, 0, place);
-    match h {
-        FullRead::Refused(r) => HdlrRead::Refused(r),
-        FullRead::Is {
-            version: _,
-            flags: _,
-        } => {
-            if s.len() < 12 {
-                return HdlrRead::Refused(Refusal { number: 8, place });
-            }
-            if fields::be32(s, 8) == PICT {
-                return HdlrRead::Pict;
-            }
-            HdlrRead::Refused(Refusal { number: 10, place })
-        }
+    read_full(s, 0, 0, place)?;
+    if s.len() < 12 {
+        return Err(Refusal { number: 8, place });
     }
+    if fields::be32(s, 8) != PICT {
+        return Err(Refusal { number: 10, place });
+    }
+    Ok(())
 }
 
-#[derive(Drop)]
-pub enum PitmRead {
-    Primary(ItemId),
-    Refused(Refusal),
-}
-
-pub fn read_pitm(s: &[u8], place: u64) -> PitmRead
-    ensures { result ≡ told_pitm (whole pitm_form place s.now) }
+pub fn read_pitm(s: &[u8], place: u64) -> Result<ItemId, Refusal>
+    ensures { result ≡ told item_id (whole pitm_form place s.now) }
 {
-    let h = read_full(s, 0, 1, place);
-    match h {
-        FullRead::Refused(r) => PitmRead::Refused(r),
-        FullRead::Is { version, flags: _ } => {
-            if version == 0 {
-                if s.len() == 6 {
-                    return PitmRead::Primary(ItemId(fields::be16(s, 4)));
-                }
-                return PitmRead::Refused(Refusal { number: 8, place });
-            }
-            if s.len() == 8 {
-                return PitmRead::Primary(ItemId(fields::be32(s, 4)));
-            }
-            PitmRead::Refused(Refusal { number: 8, place })
+    let h = read_full(s, 0, 1, place)?;
+    if h.version == 0 {
+        if s.len() == 6 {
+            return Ok(ItemId(fields::be16(s, 4)));
         }
+        return Err(Refusal { number: 8, place });
     }
+    if s.len() == 8 {
+        return Ok(ItemId(fields::be32(s, 4)));
+    }
+    Err(Refusal { number: 8, place })
 }

@@ -6,7 +6,7 @@ ghost use Rattle.fields.specs.Field.{be_at};
 ghost use Rattle.pictures.specs.Signed.{signed};
 ghost use Rattle.corners.specs.inner.Place.{raised, tile_in, span_of, seen_in, seen_of};
 
-use layout::{Part, ZERO, least, less, whole};
+use layout::{Part, ZERO, whole};
 use pictures::Size;
 
 // Where the corner of an input lies on its canvas, each number with `ZERO` added to it.
@@ -92,77 +92,54 @@ pub fn offset_in(b: &[u8], bytes: usize, k: u32) -> Corner
 }
 
 // What is seen of a side: its first and last pixel.
-#[derive(Drop)]
-pub enum Span {
-    Is { from: u32, to: u32 },
-    None,
+#[derive(Clone, Copy)]
+pub struct Span {
+    pub from: u32,
+    pub to: u32,
 }
 
 // What is seen of an input's side, which begins at a corner, between a first and a last pixel of its canvas.
-fn span_of(first: u32, last: u32, corner: u64, side: u32) -> Span
+fn span_of(first: u32, last: u32, corner: u64, side: u32) -> Option<Span>
     ensures { result ≡ span_of first last corner side }
 {
     if side == 0 {
-        return Span::None;
+        return None;
     }
     let a = ZERO + first as u64;
     let z = ZERO + last as u64;
     if z < corner {
-        return Span::None;
+        return None;
     }
     let end = corner + side as u64;
     if end <= a {
-        return Span::None;
+        return None;
     }
-    Span::Is {
-        from: less(a, corner) as u32,
-        to: least(z - corner, side as u64 - 1) as u32,
-    }
+    Some(Span {
+        from: a.saturating_sub(corner) as u32,
+        to: (z - corner).min(side as u64 - 1) as u32,
+    })
 }
 
-#[derive(Drop)]
-pub enum Seen {
-    Is(Part),
-    None,
-}
-
-fn seen_in(part: Part, corner: Corner, s: Size) -> Seen
+fn seen_in(part: Part, corner: Corner, s: Size) -> Option<Part>
     ensures { result ≡ seen_in part corner s }
 {
-    let x = span_of(part.left, part.right, corner.x, s.wide);
-    let y = span_of(part.top, part.bottom, corner.y, s.high);
-    match x {
-        Span::None => Seen::None,
-        Span::Is {
-            from: left,
-            to: right,
-        } => match y {
-            Span::None => Seen::None,
-            Span::Is {
-                from: top,
-                to: bottom,
-            } => Seen::Is(Part {
-                left,
-                top,
-                right,
-                bottom,
-            }),
-        },
-    }
+    let x = span_of(part.left, part.right, corner.x, s.wide)?;
+    let y = span_of(part.top, part.bottom, corner.y, s.high)?;
+    Some(Part {
+        left: x.from,
+        top: y.from,
+        right: x.to,
+        bottom: y.to,
+    })
 }
 
 // What is seen of an input in a part of its canvas; where that is nothing and what is cut away is drawn too, what of it lies on the canvas.
-pub fn seen_of(part: Part, canvas: Size, around: bool, corner: Corner, s: Size) -> Seen
+pub fn seen_of(part: Part, canvas: Size, around: bool, corner: Corner, s: Size) -> Option<Part>
     ensures { result ≡ seen_of part canvas around corner s }
 {
-    let seen = seen_in(part, corner, s);
-    match seen {
-        Seen::Is(p) => Seen::Is(p),
-        Seen::None => {
-            if around {
-                return seen_in(whole(canvas), corner, s);
-            }
-            Seen::None
-        }
+    match seen_in(part, corner, s) {
+        Some(seen) => Some(seen),
+        None if around => seen_in(whole(canvas), corner, s),
+        None => None,
     }
 }

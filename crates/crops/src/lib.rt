@@ -1,14 +1,11 @@
 // The working of an item's crops for the desk, step by step with the numbers: a line for each side of each crop. Document 02, Q-2.
 #![tactic(auto)]
 
+use boxes::types::{CLAP, ISPE};
 use io::print_decimal;
-use pictures::{Size, StepFound};
+use pictures::Size;
 use table::{ItemId, ItemRow};
 use words::say;
-
-const CLAP: u32 = 0x636c6170;
-
-const ISPE: u32 = 0x69737065;
 
 // One side of a picture and what a `clap` says of it: width, or height, n / d, offset o / od, o a 32-bit two's complement number.
 #[derive(Clone, Copy)]
@@ -94,10 +91,9 @@ fn print_steps(id: ItemId, cut: Cut, c: u64) -> bool {
     print_named(b"\tleaves ", left as u64);
     let common = pictures::common_of(left, cut.od);
     print_over(b"\tcommon denominator ", common, cut.od as u64);
-    let found = pictures::twice_edge(common, cut.o);
-    match found {
-        StepFound::Fails => print_misfit(id, b"twice the edge is below 0"),
-        StepFound::Is(twice) => print_halves(id, left, cut.od, twice),
+    match pictures::twice_edge(common, cut.o) {
+        Some(twice) => print_halves(id, left, cut.od, twice),
+        None => print_misfit(id, b"twice the edge is below 0"),
     }
 }
 
@@ -107,15 +103,12 @@ fn print_cut(id: ItemId, cut: Cut) -> bool {
     if cut.od == 0 {
         return print_misfit(id, b"the offset's denominator is 0");
     }
-    let width = pictures::width_of(cut.side, cut.n, cut.d);
-    match width {
-        StepFound::Fails => {
-            print_misfit(
-                id,
-                b"what is cut to is no whole number of pixels, or more than the side has",
-            )
-        }
-        StepFound::Is(c) => print_steps(id, cut, c),
+    match pictures::width_of(cut.side, cut.n, cut.d) {
+        Some(c) => print_steps(id, cut, c),
+        None => print_misfit(
+            id,
+            b"what is cut to is no whole number of pixels, or more than the side has",
+        ),
     }
 }
 
@@ -155,27 +148,13 @@ fn print_crop(id: ItemId, k: usize, s: Size, b: &[u8]) -> bool {
             od: fields::be32(b, 28),
         },
     );
-    if across {
-        return down;
-    }
-    false
-}
-
-// The size that an `ispe` of content b declares.
-fn declared_size(b: &[u8]) -> Size {
-    if b.len() < 12 {
-        return Size { wide: 0, high: 0 };
-    }
-    Size {
-        wide: fields::be32(b, 4),
-        high: fields::be32(b, 8),
-    }
+    across && down
 }
 
 // What the property with the content b makes of a picture of size s.
 fn size_behind(kind: u32, s: Size, b: &[u8]) -> Size {
     if kind == ISPE {
-        return declared_size(b);
+        return declared::ispe_size(b);
     }
     if declared::is_transform(kind) {
         return pictures::size_after(pictures::turn_of(s, kind, b), s);
@@ -189,8 +168,7 @@ pub fn print_crops(head: &[u8], table: &[u32], row: ItemRow) {
     let n = declared::property_count(table, row);
     let mut s = Size { wide: 0, high: 0 };
     let mut none = true;
-    let mut j: usize = 0;
-    while j < n {
+    for j in 0..n {
         let kind = declared::kind_of(table, row, j);
         let b = views::content_of(declared::box_of(head, table, row, j));
         if kind == CLAP {
@@ -200,7 +178,6 @@ pub fn print_crops(head: &[u8], table: &[u32], row: ItemRow) {
             }
         }
         s = size_behind(kind, s, b);
-        j += 1;
     }
     if none {
         print_named(b"crop\t", id.0 as u64);

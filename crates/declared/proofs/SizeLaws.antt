@@ -24,16 +24,17 @@ use Rattle.rules.specs.Places.{Places}
 use Rattle.rules.specs.Derivations.{declared_in}
 use Rattle.views.specs.inner.View.{TableOf}
 use Rattle.fields.proofs.ListLaws.{left-from}
-use Rattle.declared.specs.declared.SizesRead.{SizesRead}
-use Rattle.declared.specs.declared.SizesRead.TheVariants.{Are}
+use Rattle.std.specs.Prelude.{Option}
+use Rattle.declared.specs.declared.Sizes.{Sizes}
+use Rattle.declared.specs.inner.Told.{are}
 use Rattle.declared.proofs.NamedLaws.{type_at, boxes-many, box-held, held-ispe, held-sized}
 
 abbrev pub through : Size → List (List ℕ) → Size
 through s bs = size_through (turns_of s bs) s
 
-unfoldable pub sizes_behind : Bool → Size → Size → List (List ℕ) → SizesRead
-sizes_behind true d o bs = Are d (through o bs)
-sizes_behind false d o bs = Are (declared_in bs) (through (declared_in bs) bs)
+unfoldable pub sizes_behind : Bool → Size → Size → List (List ℕ) → Option Sizes
+sizes_behind true d o bs = are d (through o bs)
+sizes_behind false d o bs = are (declared_in bs) (through (declared_in bs) bs)
 
 -- declared_in, turns_of: the box b at the front
 module _ (b : List ℕ) (bs : List (List ℕ)) where
@@ -75,7 +76,7 @@ module _ {t head : List ℕ} {pl : Places} {f : File} (v : TableOf t head pl f) 
   pub sizes-skip : (s : Bool) (d o : Size) → (k ≡ ispe → ⊥) → transform k ≡ false →
       sizes_behind s d o (drop j (boxes_of f id)) ≡ sizes_behind s d o (drop (j + 1) (boxes_of f id))
   unfolding sizes_behind
-  sizes-skip true d o n q = ap (Are d) (through-skip o q)
+  sizes-skip true d o n q = ap (are d) (through-skip o q)
   sizes-skip false d o n q = rw (through-skip (declared_in (drop j (boxes_of f id))) q, declared-skip n)
 
   -- b is the box, and c its content
@@ -108,18 +109,18 @@ module _ {t head : List ℕ} {pl : Places} {f : File} (v : TableOf t head pl f) 
     pub sizes-declared : (d o r : Size) → k ≡ ispe → (12 ≤ length c → r ≡ size (be_at c 4 4) (be_at c 8 4))
         → sizes_behind false d o (drop j (boxes_of f id)) ≡ sizes_behind true r r (drop (j + 1) (boxes_of f id))
     unfolding sizes_behind
-    sizes-declared d o r q g = rw (← declared-read r q g) (ap (Are r) (through-skip r (ap transform q)))
+    sizes-declared d o r q g = rw (← declared-read r q g) (ap (are r) (through-skip r (ap transform q)))
 
     pub sizes-turned : (d s r : Size) (u : Turn) → transform k ≡ true → (LongAsAsked k c → u ≡ turn_by s k c) → r ≡ size_after u s
         → sizes_behind true d s (drop j (boxes_of f id)) ≡ sizes_behind true d r (drop (j + 1) (boxes_of f id))
     unfolding sizes_behind
-    sizes-turned d s r u q g er = ap (Are d) (through_read s r u q g er)
+    sizes-turned d s r u q g er = ap (are d) (through_read s r u q g er)
 
-pub sizes-all : (d o : Size) (bs : List (List ℕ)) → Are (declared_in bs) (through (declared_in bs) bs) ≡ sizes_behind false d o bs
+pub sizes-all : (d o : Size) (bs : List (List ℕ)) → are (declared_in bs) (through (declared_in bs) bs) ≡ sizes_behind false d o bs
 unfolding sizes_behind
 sizes-all d o bs = refl
 
 -- past the last box
-pub sizes-end : (d o : Size) (bs : List (List ℕ)) (j : ℕ) → length bs ≤ j → sizes_behind true d o (drop j bs) ≡ Are d o
+pub sizes-end : (d o : Size) (bs : List (List ℕ)) (j : ℕ) → length bs ≤ j → sizes_behind true d o (drop j bs) ≡ are d o
 unfolding sizes_behind turns_of size_through
-sizes-end d o bs j h = ap (λ (r : List (List ℕ)). Are d (through o r)) (drop_of_length-le bs h)
+sizes-end d o bs j h = ap (λ (r : List (List ℕ)). are d (through o r)) (drop_of_length-le bs h)

@@ -25,24 +25,25 @@ use Rattle.rules.specs.Places.{Places}
 use Rattle.rules.specs.Derivations.{declared_in}
 use Rattle.rules.specs.Rules.{essential_known, good_ispe}
 use Rattle.views.specs.inner.View.{TableOf}
+use Rattle.std.specs.Prelude.{Option, Some, None}
+use Rattle.std.specs.Bool.{then_some}
 use Rattle.declared.specs.inner.Told.{told_sizes}
-use Rattle.declared.specs.declared.SizesRead.{SizesRead}
-use Rattle.declared.specs.declared.SizesRead.TheVariants.{Are, Wrong}
+use Rattle.declared.specs.declared.Sizes.{Sizes}
 use Rattle.declared.proofs.NamedLaws.{boxes-many, types_many}
 use Rattle.declared.proofs.EssentialLaws.{essential-none}
 use Rattle.declared.proofs.IspeLaws.{good_behind, good-all, first-ispe, second-ispe, other-type, sized_turn, early_turn, good-end}
 use Rattle.declared.proofs.SizeLaws.{through, sizes_behind, sizes-all, sizes-skip, sizes-declared, sizes-turned, sizes-end}
 
 module _ (f : File) (id : ℕ) where
-  unfoldable pub told_from : ℕ → Bool → Size → Size → SizesRead
+  unfoldable pub told_from : ℕ → Bool → Size → Size → Option Sizes
   told_from j s d o = pick (essential_known f (drop j (associations_of f id)) && good_behind s (drop j (types_of f id)))
-      (sizes_behind s d o (drop j (boxes_of f id))) Wrong
+      (sizes_behind s d o (drop j (boxes_of f id))) None
 
   pub told-all : (d o : Size) → told_sizes f id ≡ told_from 0 false d o
   unfolding told_sizes told_from
   told-all d o = rw (good-all (types_of f id), sizes-all d o (boxes_of f id))
 
-  pub told-end : (j : ℕ) (s : Bool) (d o : Size) → length (associations_of f id) ≤ j → told_from j s d o ≡ pick s (Are d o) Wrong
+  pub told-end : (j : ℕ) (s : Bool) (d o : Size) → length (associations_of f id) ≤ j → told_from j s d o ≡ then_some s (record { declared = d; output = o })
   unfolding told_from pick
   told-end j true d o h =
       rw (
@@ -53,13 +54,13 @@ module _ (f : File) (id : ℕ) where
   told-end j false d o h = rw (essential-none f (associations_of f id) j h, good-end (types_of f id) j false (omega (arith, types_many f id)))
 
   module _ (j : ℕ) (s : Bool) (d o : Size) where
-    pub told-unknown : essential_known f (drop j (associations_of f id)) ≡ false → told_from j s d o ≡ Wrong
+    pub told-unknown : essential_known f (drop j (associations_of f id)) ≡ false → told_from j s d o ≡ None
     unfolding told_from pick
     told-unknown e = rw e
 
-    told_misplaced : good_behind s (drop j (types_of f id)) ≡ false → told_from j s d o ≡ Wrong
+    told_misplaced : good_behind s (drop j (types_of f id)) ≡ false → told_from j s d o ≡ None
     unfolding told_from
-    told_misplaced e = pick_no (sizes_behind s d o (drop j (boxes_of f id))) Wrong (and_none (essential_known f (drop j (associations_of f id))) _ e)
+    told_misplaced e = pick_no (sizes_behind s d o (drop j (boxes_of f id))) None (and_none (essential_known f (drop j (associations_of f id))) _ e)
 
     told-on : (t : Bool) (c p : Size) → essential_known f (drop j (associations_of f id)) ≡ essential_known f
         (drop (j + 1) (associations_of f id)) → good_behind s (drop j (types_of f id)) ≡ good_behind t
@@ -74,11 +75,11 @@ module _ {t head : List ℕ} {pl : Places} {f : File} (v : TableOf t head pl f) 
   in_types : j < length (types_of f id)
   in_types = omega (arith, types_many f id)
 
-  pub told-second : k ≡ ispe → s ≡ true → told_from f id j s d o ≡ Wrong
+  pub told-second : k ≡ ispe → s ≡ true → told_from f id j s d o ≡ None
   told-second i q = told_misplaced f id j s d o (rw q (second-ispe (types_of f id) j in_types k e i))
 
   -- a transform before an `ispe`, as the code meets it: s₁ is whether a size was declared, this property included
-  pub told_early : (s₁ : Bool) → (s₁ ≡ true) ⊎ ((k ≡ ispe → ⊥) × (s₁ ≡ s)) → transform k ≡ true → s₁ ≡ false → told_from f id j s d o ≡ Wrong
+  pub told_early : (s₁ : Bool) → (s₁ ≡ true) ⊎ ((k ≡ ispe → ⊥) × (s₁ ≡ s)) → transform k ≡ true → s₁ ≡ false → told_from f id j s d o ≡ None
   told_early s₁ (inl a) q z = untrue (sym z ∙ a)
   told_early s₁ (inr a) q z = told_misplaced f id j s d o (rw (sym a.1 ∙ z) (early_turn (types_of f id) j in_types k e a.0 q))
 
@@ -106,11 +107,11 @@ module _ {t head : List ℕ} {pl : Places} {f : File} (v : TableOf t head pl f) 
           (rw (← eo) (sizes-turned v id j l k e b c eb ec d o₁ o₂ u q g et)))
 
 -- the code's value
-abbrev pub Says : File → ℕ → SizesRead → Type 0
-Says f id (Are d o) = ((essential_known f (associations_of f id) && good_ispe (types_of f id)) ≡ true) ×
-    (d ≡ declared_in (boxes_of f id)) × (o ≡ through d (boxes_of f id))
-Says f id Wrong = (essential_known f (associations_of f id) && good_ispe (types_of f id)) ≡ false
+abbrev pub Says : File → ℕ → Option Sizes → Type 0
+Says f id (Some s) = ((essential_known f (associations_of f id) && good_ispe (types_of f id)) ≡ true) ×
+    (s.declared ≡ declared_in (boxes_of f id)) × (s.output ≡ through s.declared (boxes_of f id))
+Says f id None = (essential_known f (associations_of f id) && good_ispe (types_of f id)) ≡ false
 
-pub says : (f : File) (id : ℕ) (x y : SizesRead) → x ≡ told_sizes f id → x ≡ y → Says f id y
+pub says : (f : File) (id : ℕ) (x y : Option Sizes) → x ≡ told_sizes f id → x ≡ y → Says f id y
 unfolding told_sizes
 says f id x y e q = subst (Says f id) (sym e ∙ q) (both (Says f id) _ _ _ (λ k. (k, refl, refl)) (λ k. k))

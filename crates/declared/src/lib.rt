@@ -14,32 +14,9 @@ ghost use Rattle.rules.specs.Rules.{essential_known, configured};
 ghost use Rattle.views.specs.inner.View.{TableOf, id_of};
 ghost use Rattle.declared.specs.inner.Told.{Alike, told_sizes};
 
+use boxes::types::{AUXC, CLAP, COLR, HVC1, HVCC, IMIR, IROT, ISPE, JPGC, PASP, PIXI, RLOC};
 use pictures::Size;
 use table::ItemRow;
-
-const HVC1: u32 = 0x68766331;
-
-const ISPE: u32 = 0x69737065;
-
-const PASP: u32 = 0x70617370;
-
-const COLR: u32 = 0x636f6c72;
-
-const PIXI: u32 = 0x70697869;
-
-const RLOC: u32 = 0x726c6f63;
-
-const AUXC: u32 = 0x61757843;
-
-const CLAP: u32 = 0x636c6170;
-
-const IROT: u32 = 0x69726f74;
-
-const IMIR: u32 = 0x696d6972;
-
-const HVCC: u32 = 0x68766343;
-
-const JPGC: u32 = 0x6a706743;
 
 // The word of an essential association has bit 15.
 const ESSENTIAL: u32 = 32768;
@@ -47,33 +24,17 @@ const ESSENTIAL: u32 = 32768;
 pub fn is_transform(kind: u32) -> bool
     ensures { result ≡ transform kind }
 {
-    if kind == IROT {
-        return true;
-    }
-    if kind == IMIR {
-        return true;
-    }
-    kind == CLAP
+    matches!(kind, IROT | IMIR | CLAP)
 }
 
 // Whether a type of property is one that this reader knows.
 pub fn is_known(kind: u32) -> bool
     ensures { result ≡ known_property kind }
 {
-    match kind {
-        ISPE => true,
-        PASP => true,
-        COLR => true,
-        PIXI => true,
-        RLOC => true,
-        AUXC => true,
-        CLAP => true,
-        IROT => true,
-        IMIR => true,
-        HVCC => true,
-        JPGC => true,
-        _ => false,
-    }
+    matches!(
+        kind,
+        ISPE | PASP | COLR | PIXI | RLOC | AUXC | CLAP | IROT | IMIR | HVCC | JPGC
+    )
 }
 
 // How many properties an item is associated with.
@@ -112,14 +73,10 @@ fn essentials_known(table: &[u32], row: ItemRow) -> bool
         row.0 < length f.items → result ≡ essential_known f (associations_of f (id_of f row.0)) }
 {
     let n = property_count(table, row);
-    let mut j: usize = 0;
-    while j < n {
-        if ESSENTIAL <= views::association_of(table, row, j) {
-            if !is_known(kind_of(table, row, j)) {
-                return false;
-            }
+    for j in 0..n {
+        if ESSENTIAL <= views::association_of(table, row, j) && !is_known(kind_of(table, row, j)) {
+            return false;
         }
-        j += 1;
     }
     true
 }
@@ -134,8 +91,7 @@ pub fn is_configured(table: &[u32], row: ItemRow) -> bool
     }
     let n = property_count(table, row);
     let mut seen = false;
-    let mut j: usize = 0;
-    while j < n {
+    for j in 0..n {
         if kind_of(table, row, j) == HVCC {
             if seen {
                 return false;
@@ -145,7 +101,6 @@ pub fn is_configured(table: &[u32], row: ItemRow) -> bool
             }
             seen = true;
         }
-        j += 1;
     }
     seen
 }
@@ -175,18 +130,16 @@ pub fn is_alike(table: &[u32], row: ItemRow, other: ItemRow) -> bool
     if n != property_count(table, other) {
         return false;
     }
-    let mut j: usize = 0;
-    while j < n {
+    for j in 0..n {
         if views::association_of(table, row, j) != views::association_of(table, other, j) {
             return false;
         }
-        j += 1;
     }
     true
 }
 
 // The size that the content of an `ispe` declares.
-fn ispe_size(b: &[u8]) -> Size
+pub fn ispe_size(b: &[u8]) -> Size
     ensures { 12 ≤ length b.now → result ≡ size (be_at b.now 4 4) (be_at b.now 8 4) }
 {
     if b.len() < 12 {
@@ -198,15 +151,16 @@ fn ispe_size(b: &[u8]) -> Size
     }
 }
 
-// The size that an item declares and the one that its transforms make of it, or that its properties break one of 15, 29 and 16.
-#[derive(Drop)]
-pub enum SizesRead {
-    Are { declared: Size, output: Size },
-    Wrong,
+// The size that an item declares and the one that its transforms make of it.
+#[derive(Clone, Copy)]
+pub struct Sizes {
+    pub declared: Size,
+    pub output: Size,
 }
 
-// The sizes of a picture, in one pass over its properties: each essential one known, one `ispe`, and that before all transforms.
-pub fn read_sizes(head: &[u8], table: &[u32], row: ItemRow) -> SizesRead
+// The sizes of a picture, in one pass over its properties: each essential one known, one `ispe`, and that before all
+// transforms. None where they break one of 15, 29 and 16.
+pub fn read_sizes(head: &[u8], table: &[u32], row: ItemRow) -> Option<Sizes>
     ensures { (pl : Places) (f : File) → TableOf table.now head.now pl f →
         row.0 < length f.items → result ≡ told_sizes f (id_of f row.0) }
 {
@@ -214,17 +168,14 @@ pub fn read_sizes(head: &[u8], table: &[u32], row: ItemRow) -> SizesRead
     let mut sized = false;
     let mut declared = Size { wide: 0, high: 0 };
     let mut output = Size { wide: 0, high: 0 };
-    let mut j: usize = 0;
-    while j < n {
+    for j in 0..n {
         let kind = kind_of(table, row, j);
-        if ESSENTIAL <= views::association_of(table, row, j) {
-            if !is_known(kind) {
-                return SizesRead::Wrong;
-            }
+        if ESSENTIAL <= views::association_of(table, row, j) && !is_known(kind) {
+            return None;
         }
         if kind == ISPE {
             if sized {
-                return SizesRead::Wrong;
+                return None;
             }
             sized = true;
             declared = ispe_size(views::content_of(box_of(head, table, row, j)));
@@ -232,15 +183,11 @@ pub fn read_sizes(head: &[u8], table: &[u32], row: ItemRow) -> SizesRead
         }
         if is_transform(kind) {
             if !sized {
-                return SizesRead::Wrong;
+                return None;
             }
             let b = views::content_of(box_of(head, table, row, j));
             output = pictures::size_after(pictures::turn_of(output, kind, b), output);
         }
-        j += 1;
     }
-    if sized {
-        return SizesRead::Are { declared, output };
-    }
-    SizesRead::Wrong
+    sized.then_some(Sizes { declared, output })
 }

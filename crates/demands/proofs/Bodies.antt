@@ -20,6 +20,7 @@ use Rattle.fields.proofs.FieldLaws.{both, pick_yes, pick_no}
 use Rattle.fields.proofs.TestLaws.{untrue, or_either}
 use Rattle.boxes.specs.Answer.{Answer, ok, refuse, ◌>>=◌, ◌>>◌}
 use Rattle.boxes.specs.Types.{grid, iovl, iden, coded, derived}
+use Rattle.std.specs.Prelude.{Result, Err}
 use Rattle.boxes.specs.declared.Refusal.{Refusal}
 use Rattle.boxes.proofs.AnswerLaws.{bind_ok, ok_bind, then_ok, check-ok, ok_inj}
 use Rattle.contents.specs.Iinf.{Item}
@@ -36,8 +37,6 @@ use Rattle.rules.proofs.DerivationLaws.{rule-17-ok}
 use Rattle.rules.proofs.ByteLaws.{body-joined, body-long}
 use Rattle.views.proofs.LookupLaws.{row_listed}
 use Rattle.asked.proofs.PicturedLaws.{row_holds}
-use Rattle.bodied.specs.declared.Bodied.{Bodied}
-use Rattle.bodied.specs.declared.Bodied.TheVariants as bodied
 use Rattle.bodied.specs.Body.{has_body, body_in, opened_for, body, buffer_after, room_left}
 use Rattle.bodied.specs.Told.{told_bodied}
 use Rattle.bodied.proofs.RoomLaws.{room-opened, table_opened, short-opened, room-left, left_table, left-cleared}
@@ -234,8 +233,8 @@ module _ (head : List ℕ) (total : ℕ) (table : List ℕ) (room id : ℕ) wher
 
 -- the answer with the buffer, of both faces
 module _ (head : List ℕ) (total : ℕ) (table : List ℕ) (id : ℕ) (buffer : List ℕ) where
-  pub body_decided : (r : Bodied) (buffer-left left : List ℕ) → BodyGiven head total table id buffer r buffer-left left →
-      BodyDecided head total table (length buffer) id {B = Bodied × List ℕ} (λ m. (told_bodied m, buffer_after m buffer)) (r, buffer-left) left
+  pub body_decided : (r : Result ℕ Refusal) (buffer-left left : List ℕ) → BodyGiven head total table id buffer r buffer-left left →
+      BodyDecided head total table (length buffer) id {B = Result ℕ Refusal × List ℕ} (λ m. (told_bodied m, buffer_after m buffer)) (r, buffer-left) left
   body_decided r buffer-left left g = body_decides head total table (length buffer) id
       (λ m. (told_bodied m, buffer_after m buffer)) (r, buffer-left) left (rw (g.0, g.1.0)) g.1.1
 
@@ -245,7 +244,7 @@ module _ (head : List ℕ) (total : ℕ) (table : List ℕ) (id : ℕ) (buffer :
       (λ m. (out_bodied m, buffer_after m buffer)) (r, written) left (rw (g.0, g.1)) g.2
 
   -- the buffer is as it was
-  pub body_refused : (y : Refusal) (buffer-left left : List ℕ) → BodyGiven head total table id buffer (bodied.Refused y) buffer-left left →
+  pub body_refused : (y : Refusal) (buffer-left left : List ℕ) → BodyGiven head total table id buffer (Err y) buffer-left left →
       BodyCall head total table (length buffer) id y.number y.place left × (buffer-left ≡ buffer)
   unfolding buffer_after
   body_refused y buffer-left left g =
@@ -259,7 +258,7 @@ module _ (head : List ℕ) (total : ℕ) (table : List ℕ) (id : ℕ) (buffer :
     good-body = ap (λ (o : Answer File). o >>= (λ f. body_in total head f id))
         (room-opened head total table (length buffer) id wide ∙ good-opened head total table enough f good)
 
-    pub body-good : (r : Bodied) (buffer-left left : List ℕ) → BodyGiven head total table id buffer r buffer-left left →
+    pub body-good : (r : Result ℕ Refusal) (buffer-left left : List ℕ) → BodyGiven head total table id buffer r buffer-left left →
         (r ≡ told_bodied (body_in total head f id)) × ((buffer-left ≡ buffer_after (body_in total head f id) buffer) ×
         (left ≡ words_of total head f ++ drop 11280 table))
     body-good r buffer-left left g = (
@@ -293,7 +292,7 @@ module _ (head : List ℕ) (total : ℕ) (t u : List ℕ) (enough : 11280 ≤ le
           after_same head total t u enough enough-too a b (x ∙ room-left head total t (length buffer) id after h)
           (y ∙ room-left head total u (length buffer) id after h)
 
-  pub body_same : (r s : Bodied) (l m a b : List ℕ) → BodyGiven head total t id buffer r l a → BodyGiven head total u id buffer s m b →
+  pub body_same : (r s : Result ℕ Refusal) (l m a b : List ℕ) → BodyGiven head total t id buffer r l a → BodyGiven head total u id buffer s m b →
       (r ≡ s) × ((l ≡ m) × (take 11280 a ≡ take 11280 b))
   body_same r s l m a b x y = (
     x.0 ∙ ap told_bodied body-asked ∙ sym y.0,

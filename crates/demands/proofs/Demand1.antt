@@ -14,6 +14,9 @@ use lib.Dec.{leb}
 use borrow.Author.Tests.{leb-true, leb-false, le-leb}
 use Rattle.fields.specs.Choice.{pick}
 use Rattle.fields.proofs.FieldLaws.{pick_yes}
+use Rattle.std.specs.Prelude.{Result, Err}
+use Rattle.asked.specs.declared.Verdict.{Verdict}
+use Rattle.asked.specs.declared.Sizes.{Sizes}
 use Rattle.boxes.specs.declared.Refusal.{Refusal}
 use Rattle.boxes.specs.Answer.{Answer, ok, refuse, check, ◌>>=◌, ◌>>◌}
 use Rattle.contents.specs.File.{File}
@@ -27,19 +30,8 @@ use Rattle.questions.specs.Questions.{verdict_in, trace_in, sources_in, property
 use Rattle.questions.specs.Questions as Q
 use Rattle.records.proofs.BoundLaws.{read_bounds}
 use Rattle.views.proofs.LayoutLaws.{words-length}
-use Rattle.asked.specs.declared.FileVerdict.{FileVerdict}
-use Rattle.asked.specs.declared.FileVerdict.TheVariants as verdict
-use Rattle.asked.specs.declared.Sized.{Sized}
-use Rattle.asked.specs.declared.Sized.TheVariants as sized
 use Rattle.traced.specs.declared.Traced.{Traced}
-use Rattle.traced.specs.declared.Traced.TheVariants as traced
 use Rattle.seam.specs.declared.PointRecord.{PointRecord}
-use Rattle.seam.specs.declared.PointsFilled.{PointsFilled}
-use Rattle.seam.specs.declared.PointsFilled.TheVariants as filled
-use Rattle.sourced.specs.declared.Listed.{Listed}
-use Rattle.sourced.specs.declared.Listed.TheVariants as listed
-use Rattle.facing.specs.declared.Oriented.{Oriented}
-use Rattle.facing.specs.declared.Oriented.TheVariants as oriented
 use Rattle.facing.specs.Orientation.{orientation}
 use Rattle.asked.specs.Told.{told_verdict, told_sized}
 use Rattle.traced.specs.Told.{told_traced}
@@ -95,25 +87,25 @@ module _ (head : List ℕ) (total : ℕ) where
     refused-kept k Unmet h keep l x same g n p e = (refused_call k Unmet h n p e, g ∙ ap keep e ∙ same n p)
 
   module _ (table left : List ℕ) (y : Refusal) where
-    pub verdict-refused : VerdictGiven head total table (verdict.Refused y) left → Call head total table (λ f n p. ⊥) y.number y.place left
+    pub verdict-refused : VerdictGiven head total table (Err y) left → Call head total table (λ f n p. ⊥) y.number y.place left
     unfolding Q.verdict verdict_in
     verdict-refused g = refused_call table left g.1 verdict_in _ (λ f n p e. never _ n p e) _ _
         (verdict-told (Q.verdict (length table) total head) y (sym g.0))
 
-    pub size-refused : (id : ℕ) → SizeGiven head total table id (sized.Refused y) left →
+    pub size-refused : (id : ℕ) → SizeGiven head total table id (Err y) left →
         Call head total table (λ f n p. SizeUnmet f id n × (p ≡ id)) y.number y.place left
     unfolding Q.size
     size-refused id g = refused_call table left g.1 _ _ (λ f n p e. size-unmet f id (scene_of total head f) n p e) _ _
         (size-told (Q.size (length table) total head id) y (sym g.0))
 
-    pub trace-refused : (id : ℕ) (q : Point) → TraceGiven head total table id q (traced.Refused y) left →
+    pub trace-refused : (id : ℕ) (q : Point) → TraceGiven head total table id q (Err y) left →
         Call head total table (λ f n p. TraceUnmet (scene_of total head f) f id q n × (p ≡ id)) y.number y.place
         left
     unfolding Q.trace
     trace-refused id q g = refused_call table left g.1 _ _ (λ f n p e. trace-unmet f id (scene_of total head f) q n p
         e) _ _ (trace-told (Q.trace (length table) total head id q) y (sym g.0))
 
-    pub orientation-refused : (id : ℕ) → OrientationGiven head total table id (oriented.Refused y) left →
+    pub orientation-refused : (id : ℕ) → OrientationGiven head total table id (Err y) left →
         Call head total table (λ f n p. OrientationUnmet f id n × (p ≡ id)) y.number y.place left
     unfolding orientation
     orientation-refused id g = refused_call table left g.1 _ _
@@ -122,7 +114,7 @@ module _ (head : List ℕ) (total : ℕ) where
 
     -- the list is as it was
     pub sources-refused : (id : ℕ) (list list_left : List ℕ) →
-        SourcesGiven head total table id list (listed.Refused y) list_left left →
+        SourcesGiven head total table id list (Err y) list_left left →
         Call head total table (λ f n p. SourcesUnmet (scene_of total head f) f id (length list) n × (p ≡ id)) y.number
         y.place left × (list_left ≡ list)
     unfolding Q.sources list_after
@@ -132,7 +124,7 @@ module _ (head : List ℕ) (total : ℕ) where
 
     -- every record is as it was
     pub points-refused : (id : ℕ) (records records-left : List PointRecord) →
-        PointsGiven head total table id records (filled.Refused y) records-left left →
+        PointsGiven head total table id records (Err y) records-left left →
         Call head total table (λ f n p. PointsUnmet f id (length records) n × (p ≡ id)) y.number y.place left ×
         (records-left ≡ records)
     unfolding points records_after
@@ -142,7 +134,7 @@ module _ (head : List ℕ) (total : ℕ) where
         g.1.0 _ _ (points-told (points (length table) total head id (length records)) y (sym g.0))
 
     pub point_numbers_refused : (id : ℕ) (records records-left : List (List ℕ)) →
-        PointNumbersGiven head total table id records (filled.Refused y) records-left left →
+        PointNumbersGiven head total table id records (Err y) records-left left →
         Call head total table (λ f n p. PointsUnmet f id (length records) n × (p ≡ id)) y.number y.place left ×
         (records-left ≡ records)
     unfolding points numbers_after
@@ -200,36 +192,36 @@ module _ (head : List ℕ) (total : ℕ) where
       (x.1.0 ∙ ap keep opened-same ∙ sym y.1.0, after_same a b x.1.1 y.1.1),
     )
 
-    pub verdict-same : (r s : FileVerdict) (a b : List ℕ) → VerdictGiven head total t r a →
+    pub verdict-same : (r s : Result Verdict Refusal) (a b : List ℕ) → VerdictGiven head total t r a →
         VerdictGiven head total u s b → (r ≡ s) × (take 11280 a ≡ take 11280 b)
     unfolding Q.verdict
     verdict-same r s a b x y = (asked-same told_verdict _ r s x.0 y.0, after_same a b x.1 y.1)
 
-    pub size_same : (id : ℕ) (r s : Sized) (a b : List ℕ) → SizeGiven head total t id r a →
+    pub size_same : (id : ℕ) (r s : Result Sizes Refusal) (a b : List ℕ) → SizeGiven head total t id r a →
         SizeGiven head total u id s b → (r ≡ s) × (take 11280 a ≡ take 11280 b)
     unfolding Q.size
     size_same id r s a b x y = (asked-same told_sized _ r s x.0 y.0, after_same a b x.1 y.1)
 
-    pub trace-same : (id : ℕ) (p : Point) (r s : Traced) (a b : List ℕ) → TraceGiven head total t id p r a →
+    pub trace-same : (id : ℕ) (p : Point) (r s : Result Traced Refusal) (a b : List ℕ) → TraceGiven head total t id p r a →
         TraceGiven head total u id p s b → (r ≡ s) × (take 11280 a ≡ take 11280 b)
     unfolding Q.trace
     trace-same id p r s a b x y = (asked-same told_traced _ r s x.0 y.0, after_same a b x.1 y.1)
 
-    pub sources-same : (id : ℕ) (list : List ℕ) (r s : Listed) (l m a b : List ℕ) →
+    pub sources-same : (id : ℕ) (list : List ℕ) (r s : Result ℕ Refusal) (l m a b : List ℕ) →
         SourcesGiven head total t id list r l a → SourcesGiven head total u id list s m b → (r ≡ s) ×
         ((l ≡ m) × (take 11280 a ≡ take 11280 b))
     unfolding Q.sources
     sources-same id list = lent_same (λ o. told_listed (o >>= (λ f. sources_in (scene_of total head f) f id (length list))))
         (λ o. list_after (o >>= (λ f. sources_in (scene_of total head f) f id (length list))) list)
 
-    pub points-same : (id : ℕ) (records : List PointRecord) (r s : PointsFilled) (l m : List PointRecord) (a b : List ℕ) →
+    pub points-same : (id : ℕ) (records : List PointRecord) (r s : Result ℕ Refusal) (l m : List PointRecord) (a b : List ℕ) →
         PointsGiven head total t id records r l a → PointsGiven head total u id records s m b → (r ≡ s) ×
         ((l ≡ m) × (take 11280 a ≡ take 11280 b))
     unfolding points Q.trace
     points-same id records = lent_same (λ o. told_points_filled (points_of id (length records) o))
         (λ o. records_after (points_of id (length records) o) (λ p. told_traced (trace_of id o p)) records)
 
-    pub point_numbers_same : (id : ℕ) (records : List (List ℕ)) (r s : PointsFilled) (l m : List (List ℕ)) (a b : List ℕ) →
+    pub point_numbers_same : (id : ℕ) (records : List (List ℕ)) (r s : Result ℕ Refusal) (l m : List (List ℕ)) (a b : List ℕ) →
         PointNumbersGiven head total t id records r l a → PointNumbersGiven head total u id records s m b → (r ≡ s) ×
         ((l ≡ m) × (take 11280 a ≡ take 11280 b))
     unfolding points Q.trace
@@ -242,7 +234,7 @@ module _ (head : List ℕ) (total : ℕ) where
     property-same id k = lent_same (λ o. told_part (o >>= (λ f. property_in (places_in total head) f id k)))
         (λ o. told_fault (o >>= (λ f. property_in (places_in total head) f id k)))
 
-    pub orientation-same : (id : ℕ) (r s : Oriented) (a b : List ℕ) → OrientationGiven head total t id r a →
+    pub orientation-same : (id : ℕ) (r s : Result ℕ Refusal) (a b : List ℕ) → OrientationGiven head total t id r a →
         OrientationGiven head total u id s b → (r ≡ s) × (take 11280 a ≡ take 11280 b)
     unfolding orientation
     orientation-same id r s a b x y = (asked-same told_oriented _ r s x.0 y.0, after_same a b x.1 y.1)

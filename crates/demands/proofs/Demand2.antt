@@ -2,7 +2,6 @@
 -- every answer is that of its structure, which is the only one; else the refusal is the first fault (Demand1, `bad`).
 -- Assumes nothing.
 use Prim.Native.Nat.{ℕ, ◌≤◌}
-use native.Mathlib.Omega.{arith}
 use mathlib.Core.Path.{◌≡◌, refl, ap, ◌∙◌}
 use mathlib.Core.List.{List, ◌++◌}
 use mathlib.Core.Bool.{Bool, true, false}
@@ -10,6 +9,10 @@ use lib.ListN.{length, drop}
 use lib.Dec.{leb}
 use borrow.Author.Tests.{leb-true, le-leb}
 use Rattle.fields.proofs.FieldLaws.{pick_yes}
+use Rattle.std.specs.Prelude.{Result, Ok}
+use Rattle.asked.specs.declared.Verdict.{Verdict}
+use Rattle.asked.specs.declared.Sizes.{Sizes}
+use Rattle.boxes.specs.declared.Refusal.{Refusal}
 use Rattle.boxes.specs.Answer.{Answer, ok, refuse, check, ◌>>=◌, ◌>>◌}
 use Rattle.boxes.proofs.AnswerLaws.{ok-then, ok-check}
 use Rattle.contents.specs.File.{File}
@@ -21,14 +24,8 @@ use Rattle.rules.specs.Words.{words_of}
 use Rattle.rules.specs.Opening.{accepted, opened, left_by, after_by, after}
 use Rattle.questions.specs.Questions.{verdict_in, size_in, trace_in, sources_in, property_in, list_after}
 use Rattle.questions.specs.Questions as Q
-use Rattle.asked.specs.declared.FileVerdict.{FileVerdict}
-use Rattle.asked.specs.declared.FileVerdict.TheVariants as verdict
-use Rattle.asked.specs.declared.Sized.{Sized}
 use Rattle.traced.specs.declared.Traced.{Traced}
 use Rattle.seam.specs.declared.PointRecord.{PointRecord}
-use Rattle.seam.specs.declared.PointsFilled.{PointsFilled}
-use Rattle.sourced.specs.declared.Listed.{Listed}
-use Rattle.facing.specs.declared.Oriented.{Oriented}
 use Rattle.facing.specs.Orientation.{orientation_in, orientation}
 use Rattle.asked.specs.Told.{told_verdict, told_sized}
 use Rattle.traced.specs.Told.{told_traced}
@@ -45,18 +42,18 @@ use Rattle.demands.proofs.Demand1.{points_of, trace_of}
 module _ (head : List ℕ) (total : ℕ) (table : List ℕ) where
   -- `verdict` accepts only a file that keeps the rules, and tells its items and its primary item
   pub verdict-accepts : (i : ℕ) (y : ItemId) (left : List ℕ) →
-      VerdictGiven head total table (verdict.Accepted i y) left → (11280 ≤ length table) ×
+      VerdictGiven head total table (Ok (record { items = i; primary = y })) left → (11280 ≤ length table) ×
       ((f : File) × GoodFile total head f × (i ≡ length f.items) × (y.0 ≡ f.primary))
   unfolding Q.verdict opened verdict_in told_verdict check ◌>>=◌ ◌>>◌
   verdict-accepts i y left g = by (leb 11280 (length table)) refl (accepted total head) refl g.0
     where
       by : (t : Bool) → leb 11280 (length table) ≡ t → (m : Answer File) → accepted total head ≡ m →
-          verdict.Accepted i y ≡ told_verdict ((check 1 0 t >> m) >>= verdict_in) → (11280 ≤ length table) ×
+          Ok (record { items = i; primary = y }) ≡ told_verdict ((check 1 0 t >> m) >>= verdict_in) → (11280 ≤ length table) ×
           ((f : File) × GoodFile total head f × (i ≡ length f.items) × (y.0 ≡ f.primary))
-      by false q m a e = let z : ◌≡◌ {A = ℕ} 0 1 = cc in absurd (omega arith)
-      by true q (refuse n p) a e = let z : ◌≡◌ {A = ℕ} 0 1 = cc in absurd (omega arith)
-      by true q (ok f) a e = let same : y ≡ record { 0 = f.primary } = cc in
-          (leb-true _ _ q, (f, accepted-good total head f a, (cc), ap (λ (x : ItemId). x.0) same))
+      by false q m a e = cc
+      by true q (refuse n p) a e = cc
+      by true q (ok f) a e = let same : record { items = i; primary = y } ≡ record { items = length f.items; primary = record { 0 = f.primary } } = cc in
+          (leb-true _ _ q, (f, accepted-good total head f a, ap (λ (v : Verdict). v.items) same, ap (λ (v : Verdict). v.primary.0) same))
 
   module _ (enough : 11280 ≤ length table) (f : File) (good : GoodFile total head f) where
     pub good-opened : opened (length table) total head ≡ ok f
@@ -72,18 +69,18 @@ module _ (head : List ℕ) (total : ℕ) (table : List ℕ) where
     asked told k r e = e ∙ ap (λ (m : Answer File). told (m >>= k)) good-opened
 
     -- a file that keeps the rules is accepted; the table is its words; and so on for every question
-    pub verdict-good : (r : FileVerdict) (left : List ℕ) → VerdictGiven head total table r left →
-        (r ≡ verdict.Accepted (length f.items) (record { 0 = f.primary })) ×
+    pub verdict-good : (r : Result Verdict Refusal) (left : List ℕ) → VerdictGiven head total table r left →
+        (r ≡ Ok (record { items = length f.items; primary = record { 0 = f.primary } })) ×
         (left ≡ words_of total head f ++ drop 11280 table)
     unfolding Q.verdict verdict_in told_verdict
     verdict-good r left g = (asked told_verdict verdict_in r g.0, g.1 ∙ good-after)
 
-    pub size-good : (id : ℕ) (r : Sized) (left : List ℕ) → SizeGiven head total table id r left →
+    pub size-good : (id : ℕ) (r : Result Sizes Refusal) (left : List ℕ) → SizeGiven head total table id r left →
         (r ≡ told_sized (size_in (scene_of total head f) f id)) × (left ≡ words_of total head f ++ drop 11280 table)
     unfolding Q.size
     size-good id r left g = (asked told_sized _ r g.0, g.1 ∙ good-after)
 
-    pub trace-good : (id : ℕ) (p : Point) (r : Traced) (left : List ℕ) → TraceGiven head total table id p r left →
+    pub trace-good : (id : ℕ) (p : Point) (r : Result Traced Refusal) (left : List ℕ) → TraceGiven head total table id p r left →
         (r ≡ told_traced (trace_in (scene_of total head f) f id p)) × (left ≡ words_of total head f ++ drop 11280 table)
     unfolding Q.trace
     trace-good id p r left g = (asked told_traced _ r g.0, g.1 ∙ good-after)
@@ -95,7 +92,7 @@ module _ (head : List ℕ) (total : ℕ) (table : List ℕ) where
         (left ≡ words_of total head f ++ drop 11280 table))
     lent told keep r l left g = (g.0 ∙ ap told good-opened, (g.1.0 ∙ ap keep good-opened, g.1.1 ∙ good-after))
 
-    pub points-good : (id : ℕ) (records : List PointRecord) (r : PointsFilled) (records-left : List PointRecord) (left : List ℕ)
+    pub points-good : (id : ℕ) (records : List PointRecord) (r : Result ℕ Refusal) (records-left : List PointRecord) (left : List ℕ)
         → PointsGiven head total table id records r records-left left
         → (r ≡ told_points_filled (points_in f id (length records))) ×
         ((records-left ≡ records_after (points_in f id (length records)) (λ p. told_traced (trace_in (scene_of total head f) f id p)) records)
@@ -104,7 +101,7 @@ module _ (head : List ℕ) (total : ℕ) (table : List ℕ) where
     points-good id records = lent (λ o. told_points_filled (points_of head total id (length records) o))
         (λ o. records_after (points_of head total id (length records) o) (λ p. told_traced (trace_of head total id o p)) records)
 
-    pub point_numbers_good : (id : ℕ) (records : List (List ℕ)) (r : PointsFilled) (records-left : List (List ℕ)) (left : List ℕ)
+    pub point_numbers_good : (id : ℕ) (records : List (List ℕ)) (r : Result ℕ Refusal) (records-left : List (List ℕ)) (left : List ℕ)
         → PointNumbersGiven head total table id records r records-left left
         → (r ≡ told_points_filled (points_in f id (length records))) ×
         ((records-left ≡ numbers_after (points_in f id (length records)) (trace_in (scene_of total head f) f id) records)
@@ -113,7 +110,7 @@ module _ (head : List ℕ) (total : ℕ) (table : List ℕ) where
     point_numbers_good id records = lent (λ o. told_points_filled (points_of head total id (length records) o))
         (λ o. numbers_after (points_of head total id (length records) o) (trace_of head total id o) records)
 
-    pub sources-good : (id : ℕ) (list : List ℕ) (r : Listed) (list_left left : List ℕ) → SourcesGiven head total table id list r list_left left
+    pub sources-good : (id : ℕ) (list : List ℕ) (r : Result ℕ Refusal) (list_left left : List ℕ) → SourcesGiven head total table id list r list_left left
         → (r ≡ told_listed (sources_in (scene_of total head f) f id (length list))) ×
         ((list_left ≡ list_after (sources_in (scene_of total head f) f id (length list)) list) ×
         (left ≡ words_of total head f ++ drop 11280 table))
@@ -129,7 +126,7 @@ module _ (head : List ℕ) (total : ℕ) (table : List ℕ) where
     property-good id k = lent (λ o. told_part (o >>= (λ f. property_in (places_in total head) f id k)))
         (λ o. told_fault (o >>= (λ f. property_in (places_in total head) f id k)))
 
-    pub orientation-good : (id : ℕ) (r : Oriented) (left : List ℕ) → OrientationGiven head total table id r left →
+    pub orientation-good : (id : ℕ) (r : Result ℕ Refusal) (left : List ℕ) → OrientationGiven head total table id r left →
         (r ≡ told_oriented (orientation_in (scene_of total head f) f id)) ×
         (left ≡ words_of total head f ++ drop 11280 table)
     unfolding orientation

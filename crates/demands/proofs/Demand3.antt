@@ -8,6 +8,8 @@ use mathlib.Core.List.{List}
 use lib.ListN.{length, length-map}
 use borrow.Author.Tests.{lt-ltb}
 use Rattle.fields.proofs.TestLaws.{both-and}
+use Rattle.std.specs.Prelude.{Result}
+use Rattle.boxes.specs.declared.Refusal.{Refusal}
 use Rattle.boxes.specs.Answer.{ok}
 use Rattle.boxes.proofs.AnswerLaws.{ok_bind, ok-then, ok-check}
 use Rattle.contents.specs.File.{File}
@@ -43,7 +45,7 @@ module _ (head : List ℕ) (total : ℕ) (table : List ℕ) (enough : 11280 ≤ 
   abbrev row : ℕ
   row = row_of id f.items
 
-  pub record Followed (r : Told) : Type 0 where
+  pub record Followed (r : Result Told Refusal) : Type 0 where
     pub end : End
     pub passed : ℕ
     pub path : Path s row p passed end
@@ -73,7 +75,7 @@ module _ (head : List ℕ) (total : ℕ) (table : List ℕ) (enough : 11280 ≤ 
     answered = ok_bind _ _ row (pictured-is f id shown) ∙ ok-then _ _ tt
         (ok-check 23 id _ (both-and _ _ (lt-ltb _ _ inside.in_x) (lt-ltb _ _ inside.in_y)))
 
-    pub trace-followed : (r : Told) (left : List ℕ) → TraceGiven head total table id p r left → Followed r
+    pub trace-followed : (r : Result Told Refusal) (left : List ℕ) → TraceGiven head total table id p r left → Followed r
     trace-followed r left g =
         let scene = judged-good total head f is-judged in
         let x = has_path s scene asked in

@@ -7,6 +7,7 @@ use mathlib.Core.Logic.{◌⊎◌}
 use lib.ListN.{length}
 use borrow.Author.Tests.{not-true}
 use Rattle.fields.specs.Lists.{member}
+use Rattle.std.specs.Prelude.{Result, Ok, Err}
 use Rattle.boxes.specs.declared.Refusal.{Refusal}
 use Rattle.boxes.specs.Answer.{ok}
 use Rattle.boxes.specs.Types.{clap}
@@ -18,12 +19,10 @@ use Rattle.rules.specs.Derivations.{scene_of}
 use Rattle.rules.specs.Opening.{pictured}
 use Rattle.faults.specs.Good.{GoodFile}
 use Rattle.facing.specs.declared.TransformList.{TransformList}
-use Rattle.facing.specs.declared.TransformList.TheVariants as transforms
 use Rattle.facing.specs.Orientation.{Plain, orientation_in, transforms_in}
 use Rattle.facing.specs.Told.{told_transforms}
 use Rattle.facing.proofs.FitsLaws.{OneFits, one-fits}
 use Rattle.facing.proofs.TurnsLaws.{turns-plain}
-use Rattle.facing.specs.declared.Oriented.TheVariants as oriented
 use Rattle.still.specs.Given.{OrientationGiven, TransformsGiven}
 use Rattle.facing.proofs.OrientedLaws.{picture-turns}
 use Rattle.demands.proofs.ToldLaws.{orientation-is, transforms-told}
@@ -43,15 +42,15 @@ orientation_meant total head f id n e =
 
 -- the number that is told of a file that keeps the rules
 pub orientation-fits : (head : List ℕ) (total : ℕ) (table : List ℕ) → 11280 ≤ length table → (f : File) →
-    GoodFile total head f → (id n : ℕ) (left : List ℕ) → OrientationGiven head total table id (oriented.Is n) left
+    GoodFile total head f → (id n : ℕ) (left : List ℕ) → OrientationGiven head total table id (Ok n) left
     → (r : ℕ) × (pictured f id ≡ ok r) × OneFits n (picture_at (scene_of total head f) r).turns
 orientation-fits head total table enough f good id n left g =
-    orientation_meant total head f id n (orientation-is _ n (sym (orientation-good head total table enough f good id (oriented.Is n) left g).0))
+    orientation_meant total head f id n (orientation-is _ n (sym (orientation-good head total table enough f good id (Ok n) left g).0))
 
 -- 27 at 0, exactly where the number is not 1 to 8
-pub transforms-refused : (k : ℕ) (y : Refusal) → TransformsGiven k (transforms.Refused y) → (y.number ≡ 27) × (y.place ≡ 0) × ((k ≡ 0) ⊎ (8 < k))
+pub transforms-refused : (k : ℕ) (y : Refusal) → TransformsGiven k (Err y) → (y.number ≡ 27) × (y.place ≡ 0) × ((k ≡ 0) ⊎ (8 < k))
 transforms-refused k y g = transforms-unmet k _ _ (transforms-told (transforms_in k) y (sym g))
 
-pub transforms-refuses : (k : ℕ) → (k ≡ 0) ⊎ (8 < k) → (r : TransformList) → TransformsGiven k r → r ≡ transforms.Refused (record { number = 27; place = 0 })
+pub transforms-refuses : (k : ℕ) → (k ≡ 0) ⊎ (8 < k) → (r : Result TransformList Refusal) → TransformsGiven k r → r ≡ Err (record { number = 27; place = 0 })
 unfolding told_transforms
 transforms-refuses k h r g = g ∙ ap told_transforms (transforms_off k h)

@@ -3,17 +3,14 @@
 use Prim.Native.Nat.{ℕ}
 use mathlib.Core.Path.{◌≡◌, sym, ◌∙◌}
 use mathlib.Core.List.{List}
+use Rattle.std.specs.Prelude.{Result}
+use Rattle.boxes.specs.declared.Refusal.{Refusal}
+use Rattle.table.specs.declared.PropertyIndex.{PropertyIndex}
+use Rattle.asked.specs.declared.Verdict.{Verdict}
+use Rattle.asked.specs.declared.Sizes.{Sizes}
 use Rattle.pictures.specs.declared.Point.{Point}
-use Rattle.opening.specs.declared.Opened.{Opened}
-use Rattle.asked.specs.declared.FileVerdict.{FileVerdict}
-use Rattle.asked.specs.declared.Sized.{Sized}
 use Rattle.traced.specs.declared.Traced.{Traced}
 use Rattle.seam.specs.declared.PointRecord.{PointRecord}
-use Rattle.seam.specs.declared.PointsFilled.{PointsFilled}
-use Rattle.sourced.specs.declared.Listed.{Listed}
-use Rattle.bodied.specs.declared.Bodied.{Bodied}
-use Rattle.facing.specs.declared.Oriented.{Oriented}
-use Rattle.asked.specs.declared.PropertyAsked.{PropertyAsked}
 use Rattle.facing.specs.declared.TransformList.{TransformList}
 use Rattle.opening.specs.Told.{OpenedGiven}
 use Rattle.still.specs.Given.{
@@ -38,39 +35,40 @@ three : {A B C : Type 0} {a r s : A} {b t u : B} {c v w : C} → (r ≡ a) × ((
 three x y = (x.0 ∙ sym y.0, two x.1 y.1)
 
 module _ (head : List ℕ) (total : ℕ) (table : List ℕ) where
-  pub opened-once : (r s : Opened) (t u : List ℕ) → OpenedGiven head total table r t → OpenedGiven head total table s u → (r ≡ s) × (t ≡ u)
+  pub opened-once : (r s : Result (Unit {0}) Refusal) (t u : List ℕ) → OpenedGiven head total table r t → OpenedGiven head total table s u → (r ≡ s) × (t ≡ u)
   opened-once r s t u = two
 
-  pub verdict-once : (r s : FileVerdict) (t u : List ℕ) → VerdictGiven head total table r t → VerdictGiven head total table s u → (r ≡ s) × (t ≡ u)
+  pub verdict-once : (r s : Result Verdict Refusal) (t u : List ℕ) → VerdictGiven head total table r t → VerdictGiven head total table s u → (r ≡ s) × (t ≡ u)
   verdict-once r s t u = two
 
-  pub size-once : (id : ℕ) (r s : Sized) (t u : List ℕ) → SizeGiven head total table id r t → SizeGiven head total table id s u → (r ≡ s) × (t ≡ u)
+  pub size-once : (id : ℕ) (r s : Result Sizes Refusal) (t u : List ℕ) → SizeGiven head total table id r t →
+      SizeGiven head total table id s u → (r ≡ s) × (t ≡ u)
   size-once id r s t u = two
 
-  pub trace-once : (id : ℕ) (p : Point) (r s : Traced) (t u : List ℕ) → TraceGiven head total table id p r t →
+  pub trace-once : (id : ℕ) (p : Point) (r s : Result Traced Refusal) (t u : List ℕ) → TraceGiven head total table id p r t →
       TraceGiven head total table id p s u → (r ≡ s) × (t ≡ u)
   trace-once id p r s t u = two
 
-  pub points-once : (id : ℕ) (records : List PointRecord) (r s : PointsFilled) (l m : List PointRecord) (t u : List ℕ) →
+  pub points-once : (id : ℕ) (records : List PointRecord) (r s : Result ℕ Refusal) (l m : List PointRecord) (t u : List ℕ) →
       PointsGiven head total table id records r l t → PointsGiven head total table id records s m u → (r ≡ s) ×
       ((l ≡ m) × (t ≡ u))
   points-once id records r s l m t u = three
 
-  pub point_numbers_once : (id : ℕ) (records : List (List ℕ)) (r s : PointsFilled) (l m : List (List ℕ)) (t u : List ℕ) →
+  pub point_numbers_once : (id : ℕ) (records : List (List ℕ)) (r s : Result ℕ Refusal) (l m : List (List ℕ)) (t u : List ℕ) →
       PointNumbersGiven head total table id records r l t → PointNumbersGiven head total table id records s m u → (r ≡ s) ×
       ((l ≡ m) × (t ≡ u))
   point_numbers_once id records r s l m t u = three
 
-  pub sources-once : (id : ℕ) (list : List ℕ) (r s : Listed) (l m t u : List ℕ) →
+  pub sources-once : (id : ℕ) (list : List ℕ) (r s : Result ℕ Refusal) (l m t u : List ℕ) →
       SourcesGiven head total table id list r l t → SourcesGiven head total table id list s m u → (r ≡ s) ×
       ((l ≡ m) × (t ≡ u))
   sources-once id list r s l m t u = three
 
-  pub body-once : (id : ℕ) (buffer : List ℕ) (r s : Bodied) (l m t u : List ℕ) →
+  pub body-once : (id : ℕ) (buffer : List ℕ) (r s : Result ℕ Refusal) (l m t u : List ℕ) →
       BodyGiven head total table id buffer r l t → BodyGiven head total table id buffer s m u → (r ≡ s) × ((l ≡ m) × (t ≡ u))
   body-once id buffer r s l m t u = three
 
-  pub asked-once : (id k : ℕ) (r s : PropertyAsked) (t u : List ℕ) → AskedGiven head total table id k r t →
+  pub asked-once : (id k : ℕ) (r s : Result PropertyIndex Refusal) (t u : List ℕ) → AskedGiven head total table id k r t →
       AskedGiven head total table id k s u → (r ≡ s) × (t ≡ u)
   asked-once id k r s t u = two
 
@@ -78,9 +76,9 @@ module _ (head : List ℕ) (total : ℕ) (table : List ℕ) where
       PropertyGiven head total table id k same m u → (part ≡ same) × ((l ≡ m) × (t ≡ u))
   property-once id k part same l m t u = three
 
-  pub orientation-once : (id : ℕ) (r s : Oriented) (t u : List ℕ) → OrientationGiven head total table id r t →
+  pub orientation-once : (id : ℕ) (r s : Result ℕ Refusal) (t u : List ℕ) → OrientationGiven head total table id r t →
       OrientationGiven head total table id s u → (r ≡ s) × (t ≡ u)
   orientation-once id r s t u = two
 
-pub transforms-once : (n : ℕ) (r s : TransformList) → TransformsGiven n r → TransformsGiven n s → r ≡ s
+pub transforms-once : (n : ℕ) (r s : Result TransformList Refusal) → TransformsGiven n r → TransformsGiven n s → r ≡ s
 transforms-once n r s x y = x ∙ sym y

@@ -13,6 +13,7 @@ use mathlib.Core.Path.{◌≡◌, refl, sym, ap, subst, ◌∙◌}
 use mathlib.Core.List.{List, [], ◌∷◌, map}
 use lib.ListN.{length, get_or, take, length-map}
 use Rattle.fields.proofs.TestLaws.{untrue}
+use Rattle.std.specs.Prelude.{Result, Ok, Err}
 use Rattle.boxes.specs.declared.Refusal.{Refusal}
 use Rattle.boxes.specs.Answer.{Answer, ok, refuse}
 use Rattle.contents.specs.File.{File}
@@ -22,11 +23,8 @@ use Rattle.rules.specs.Derivations.{scene_of}
 use Rattle.rules.specs.Opening.{after}
 use Rattle.questions.specs.Questions as Q
 use Rattle.traced.specs.declared.Traced.{Traced}
-use Rattle.traced.specs.declared.Traced.TheVariants as traced
 use Rattle.traced.specs.Told.{told_traced}
 use Rattle.seam.specs.declared.PointRecord.{PointRecord}
-use Rattle.seam.specs.declared.PointsFilled.{PointsFilled}
-use Rattle.seam.specs.declared.PointsFilled.TheVariants as filled
 use Rattle.seam.specs.Points.{points, single_trace, answered, records_after, told_points_filled}
 use Rattle.seam.specs.Numbers.{found_numbers, numbers_after}
 use Rattle.out.specs.Out.{out_points}
@@ -59,19 +57,19 @@ module _ (head : List ℕ) (total : ℕ) (table : List ℕ) (id : ℕ) where
   module _ (records records-left : List PointRecord) (left : List ℕ) where
     -- "Take a list of point records": whatever points they hold
     pub points_answers : 11280 ≤ length table → (f : File) → GoodFile total head f → IsPicture f id → length records ≤ 512 →
-        (r : PointsFilled) → PointsGiven head total table id records r records-left left → r ≡ filled.All (length records)
+        (r : Result ℕ Refusal) → PointsGiven head total table id records r records-left left → r ≡ Ok (length records)
     unfolding told_points_filled
     points_answers enough f good i l r g = g.0 ∙ ap told_points_filled (points-by head total table id enough f good (length records) i l)
 
     -- "Refusals 1 to 22 and a list over 512 (28, after 22) change no record."
-    pub points_untouched : (y : Refusal) → PointsGiven head total table id records (filled.Refused y) records-left left →
+    pub points_untouched : (y : Refusal) → PointsGiven head total table id records (Err y) records-left left →
         Among points_numbers y.number × (records-left ≡ records)
     points_untouched y g = (
       points-number total head (length table) _ _ id (length records) (points-told _ y (sym g.0)),
       (points-refused head total table left y id records records-left g).1,
     )
 
-    module _ (n : ℕ) (given : PointsGiven head total table id records (filled.All n) records-left left) where
+    module _ (n : ℕ) (given : PointsGiven head total table id records (Ok n) records-left left) where
       is_ok : points (length table) total head id (length records) ≡ ok n
       is_ok = points-all _ n (sym given.0)
 
@@ -82,11 +80,11 @@ module _ (head : List ℕ) (total : ℕ) (table : List ℕ) (id : ℕ) where
       unfolding records_after
       are = given.1.0 ∙ ap (λ m. records_after m (single_trace (length table) total head id) records) is_ok
 
-      holds : (k : ℕ) (old : PointRecord) → Stands records k old → (r : Traced) →
+      holds : (k : ℕ) (old : PointRecord) → Stands records k old → (r : Result Traced Refusal) →
           single_trace (length table) total head id (point old.x old.y) ≡ r →
           Stands records-left k (record { x = old.x; y = old.y; answer = r })
       holds k old s r e = each (answered (single_trace (length table) total head id)) records records-left are k old _ s
-          (ap (λ (a : Traced). record { x = old.x; y = old.y; answer = a }) e)
+          (ap (λ (a : Result Traced Refusal). record { x = old.x; y = old.y; answer = a }) e)
 
       -- no record more, none less
       pub points-count : length records-left ≡ length records
@@ -94,7 +92,7 @@ module _ (head : List ℕ) (total : ℕ) (table : List ℕ) (id : ℕ) where
 
       -- "The result equals single traces of the same points.": r is what `trace` returns, with any table t
       pub points_single : (k : ℕ) (old : PointRecord) → Stands records k old → (t t-left : List ℕ) → 11280 ≤ length t →
-          (r : Traced) → TraceGiven head total t id (point old.x old.y) r t-left →
+          (r : Result Traced Refusal) → TraceGiven head total t id (point old.x old.y) r t-left →
           Stands records-left k (record { x = old.x; y = old.y; answer = r })
       points_single k old s t t-left h r g = holds k old s r
           (ap told_traced (trace-any head total table id t h (length records) n points-filled (point old.x old.y)) ∙ sym g.0)
@@ -102,7 +100,7 @@ module _ (head : List ℕ) (total : ℕ) (table : List ℕ) (id : ℕ) where
       -- "A point outside the picture gets 23 in its own record"
       pub points-outside : (f : File) → GoodFile total head f → (k : ℕ) (old : PointRecord) → Stands records k old →
           (Inside (output_of (shown_as (scene_of total head f) f id)) (point old.x old.y) → ⊥) →
-          Stands records-left k (record { x = old.x; y = old.y; answer = traced.Refused (record { number = 23; place = id }) })
+          Stands records-left k (record { x = old.x; y = old.y; answer = Err (record { number = 23; place = id }) })
       unfolding told_traced
       points-outside f good k old s o = holds k old s _
           (ap told_traced (trace_beyond head total table id (length records) n points-filled f good (point old.x old.y) o))
@@ -110,7 +108,7 @@ module _ (head : List ℕ) (total : ℕ) (table : List ℕ) (id : ℕ) where
       -- demand 3: "every pixel has one end", of each record
       pub points-followed : (enough : 11280 ≤ length table) (f : File) (good : GoodFile total head f) (k : ℕ) (old : PointRecord) →
           Stands records k old → Inside (output_of (shown_as (scene_of total head f) f id)) (point old.x old.y) →
-          (r : Traced) × Stands records-left k (record { x = old.x; y = old.y; answer = r }) ×
+          (r : Result Traced Refusal) × Stands records-left k (record { x = old.x; y = old.y; answer = r }) ×
           Followed head total table enough f good id (point old.x old.y) r
       points-followed enough f good k old s i =
           let p = point old.x old.y in
@@ -124,18 +122,18 @@ module _ (head : List ℕ) (total : ℕ) (table : List ℕ) (id : ℕ) where
   -- the same of `point_numbers`
   module _ (records records-left : List (List ℕ)) (left : List ℕ) where
     pub numbers_answers : 11280 ≤ length table → (f : File) → GoodFile total head f → IsPicture f id → length records ≤ 512 →
-        (r : PointsFilled) → PointNumbersGiven head total table id records r records-left left → r ≡ filled.All (length records)
+        (r : Result ℕ Refusal) → PointNumbersGiven head total table id records r records-left left → r ≡ Ok (length records)
     unfolding told_points_filled
     numbers_answers enough f good i l r g = g.0 ∙ ap told_points_filled (points-by head total table id enough f good (length records) i l)
 
-    pub numbers_untouched : (y : Refusal) → PointNumbersGiven head total table id records (filled.Refused y) records-left left →
+    pub numbers_untouched : (y : Refusal) → PointNumbersGiven head total table id records (Err y) records-left left →
         Among points_numbers y.number × (records-left ≡ records)
     numbers_untouched y g = (
       points-number total head (length table) _ _ id (length records) (points-told _ y (sym g.0)),
       (point_numbers_refused head total table left y id records records-left g).1,
     )
 
-    module _ (n : ℕ) (given : PointNumbersGiven head total table id records (filled.All n) records-left left) where
+    module _ (n : ℕ) (given : PointNumbersGiven head total table id records (Ok n) records-left left) where
       numbers_ok : points (length table) total head id (length records) ≡ ok n
       numbers_ok = points-all _ n (sym given.0)
 
@@ -147,7 +145,7 @@ module _ (head : List ℕ) (total : ℕ) (table : List ℕ) (id : ℕ) where
 
       -- x and y, then the numbers of the answer m that `trace` returns as r
       pub numbers_single : (k x y : ℕ) (rest : List ℕ) → Stands records k (x ∷ y ∷ rest) → (t t-left : List ℕ) →
-          11280 ≤ length t → (r : Traced) → TraceGiven head total t id (point x y) r t-left →
+          11280 ≤ length t → (r : Result Traced Refusal) → TraceGiven head total t id (point x y) r t-left →
           (m : Answer Q.Found) × (r ≡ told_traced m) × Stands records-left k (x ∷ y ∷ found_numbers m)
       numbers_single k x y rest s t t-left h r g = (
         Q.trace (length t) total head id (point x y),
@@ -214,7 +212,7 @@ module _ (head : List ℕ) (total : ℕ) (table : List ℕ) (id : ℕ) where
 -- "and the others are still answered": whatever other records there are, and whichever place a point has among them, what
 -- two calls about one picture write beside like points is the same
 pub points_alone : (head : List ℕ) (total id : ℕ) (t u : List ℕ) (records others l m : List PointRecord) (a b : List ℕ) (i j : ℕ) →
-    PointsGiven head total t id records (filled.All i) l a → PointsGiven head total u id others (filled.All j) m b →
+    PointsGiven head total t id records (Ok i) l a → PointsGiven head total u id others (Ok j) m b →
     (p q : ℕ) (one other : PointRecord) → Stands records p one → Stands others q other → one.x ≡ other.x → one.y ≡ other.y →
     (new : PointRecord) × Stands l p new × Stands m q new
 points_alone head total id t u records others l m a b i j g h p q one other s w e c =

@@ -7,21 +7,18 @@
 --   Same head total table Given      a question whose promise is `Given`: its answer, and all that it leaves
 --   Unmoved Given                    the same of a call that is refused before the file is read
 --   AllSame, AllSameInC head total table     each question that reads a file, of both faces
-use Rattle.std.specs.Prelude.{ℕ, ◌+◌, ◌*◌, ◌≤◌, ◌<◌, ◌≡◌, List, length, get_or}
+use Rattle.std.specs.Prelude.{ℕ, ◌+◌, ◌*◌, ◌≤◌, ◌<◌, ◌≡◌, List, length, get_or, Result}
 use Rattle.boxes.specs.Answer.{ok, refuse}
+use Rattle.boxes.specs.declared.Refusal.{Refusal}
 use Rattle.contents.specs.File.{File}
 use Rattle.pictures.specs.declared.Point.{Point}
 use Rattle.rules.specs.Opening.{opened, after, file_after}
 use Rattle.arranged.specs.Rearranged.{Rearranged}
-use Rattle.asked.specs.declared.FileVerdict.{FileVerdict}
-use Rattle.asked.specs.declared.Sized.{Sized}
-use Rattle.asked.specs.declared.PropertyAsked.{PropertyAsked}
+use Rattle.table.specs.declared.PropertyIndex.{PropertyIndex}
+use Rattle.asked.specs.declared.Verdict.{Verdict}
+use Rattle.asked.specs.declared.Sizes.{Sizes}
 use Rattle.traced.specs.declared.Traced.{Traced}
-use Rattle.sourced.specs.declared.Listed.{Listed}
-use Rattle.bodied.specs.declared.Bodied.{Bodied}
-use Rattle.facing.specs.declared.Oriented.{Oriented}
 use Rattle.seam.specs.declared.PointRecord.{PointRecord}
-use Rattle.seam.specs.declared.PointsFilled.{PointsFilled}
 use Rattle.still_c.specs.Given as C
 use Rattle.still.specs.Given.{VerdictBy, SizeBy, TraceBy, SourcesBy, BodyBy, OrientationBy, AskedBy, PropertyBy, PointsBy, PointNumbersBy}
 
@@ -57,23 +54,23 @@ module _ (head : List ℕ) (total : ℕ) (table : List ℕ) where
   Unmoved {A} Given = (a b : A) (old new : List ℕ) → Given file_after a old → Given after b new → (a ≡ b) × (new ≡ old)
 
   pub record AllSame : Type 0 where
-    pub verdict : Same (λ by (r : FileVerdict) left. VerdictBy by head total table r left)
-    pub size : (id : ℕ) → Same (λ by (r : Sized) left. SizeBy by head total table id r left)
-    pub trace : (id : ℕ) (p : Point) → Same (λ by (r : Traced) left. TraceBy by head total table id p r left)
+    pub verdict : Same (λ by (r : Result Verdict Refusal) left. VerdictBy by head total table r left)
+    pub size : (id : ℕ) → Same (λ by (r : Result Sizes Refusal) left. SizeBy by head total table id r left)
+    pub trace : (id : ℕ) (p : Point) → Same (λ by (r : Result Traced Refusal) left. TraceBy by head total table id p r left)
     pub points : (id : ℕ) (records : List PointRecord) →
-        Same (λ by (a : PointsFilled × List PointRecord) left. PointsBy by head total table id records a.0 a.1 left)
+        Same (λ by (a : Result ℕ Refusal × List PointRecord) left. PointsBy by head total table id records a.0 a.1 left)
     pub point_numbers : (id : ℕ) (records : List (List ℕ)) →
-        Same (λ by (a : PointsFilled × List (List ℕ)) left. PointNumbersBy by head total table id records a.0 a.1 left)
+        Same (λ by (a : Result ℕ Refusal × List (List ℕ)) left. PointNumbersBy by head total table id records a.0 a.1 left)
     pub sources : (id : ℕ) (list : List ℕ) →
-        Same (λ by (a : Listed × List ℕ) left. SourcesBy by head total table id list a.0 a.1 left)
+        Same (λ by (a : Result ℕ Refusal × List ℕ) left. SourcesBy by head total table id list a.0 a.1 left)
     pub body : (id : ℕ) (buffer : List ℕ) → 16402 ≤ length buffer →
-        Same (λ by (a : Bodied × List ℕ) left. BodyBy by head total table id buffer a.0 a.1 left)
+        Same (λ by (a : Result ℕ Refusal × List ℕ) left. BodyBy by head total table id buffer a.0 a.1 left)
     pub short-body : (id : ℕ) (buffer : List ℕ) → length buffer < 16402 →
-        Unmoved (λ by (a : Bodied × List ℕ) left. BodyBy by head total table id buffer a.0 a.1 left)
-    pub asked : (id k : ℕ) → Same (λ by (r : PropertyAsked) left. AskedBy by head total table id k r left)
+        Unmoved (λ by (a : Result ℕ Refusal × List ℕ) left. BodyBy by head total table id buffer a.0 a.1 left)
+    pub asked : (id k : ℕ) → Same (λ by (r : Result PropertyIndex Refusal) left. AskedBy by head total table id k r left)
     pub property : (id k : ℕ) →
         Same (λ by (a : List ℕ × List ℕ) left. PropertyBy by head total table id k a.0 a.1 left)
-    pub orientation : (id : ℕ) → Same (λ by (r : Oriented) left. OrientationBy by head total table id r left)
+    pub orientation : (id : ℕ) → Same (λ by (r : Result ℕ Refusal) left. OrientationBy by head total table id r left)
 
   -- the exports: the eight numbers, and what was lent beside the table
   pub record AllSameInC : Type 0 where

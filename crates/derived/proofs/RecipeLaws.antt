@@ -4,6 +4,8 @@ use native.Mathlib.Omega.{arith}
 use mathlib.Core.Path.{◌≡◌, refl, sym, ap, subst, ◌∙◌}
 use mathlib.Core.List.{List, []}
 use mathlib.Core.Bool.{Bool, true, false}
+use Rattle.std.specs.Prelude.{Option, Some, None}
+use Rattle.std.specs.Option.{is_some}
 use lib.ListN.{length}
 use lib.Dec.{eqb, ltb}
 use borrow.Author.Tests.{eq-eqb, ne_eqb, lt-ltb, le-ltb}
@@ -18,8 +20,8 @@ use Rattle.contents.specs.Iinf.{Item}
 use Rattle.contents.specs.File.{File}
 use Rattle.pictures.specs.Recipe.{Recipe, Coded, Copy, Opaque, Tiles, Layers, Grid, Overlay, grid_form, iovl_form}
 use Rattle.pictures.specs.inner.Told.{told_grid}
-use Rattle.pictures.specs.declared.GridRead.TheVariants as tiles
-use Rattle.pictures.specs.declared.OverlayRead.TheVariants as layers
+use Rattle.pictures.specs.declared.Grid as grids
+use Rattle.pictures.specs.declared.Overlay as overlays
 use Rattle.pictures.proofs.RefusedLaws.{Refused, refused-ok}
 use Rattle.pictures.proofs.GridLaws.{told-grid, told_no_grid}
 use Rattle.pictures.proofs.OverlayLaws.{told-overlay, told_no_overlay}
@@ -47,19 +49,19 @@ check-then : (n p : ℕ) (t : Bool) (m : Answer Recipe) → t ≡ true → (chec
 check-then n p t m e = ok-then _ m tt (ok-check n p t e)
 
 -- told_derivation of a refusal, and of what a check guards
-told-refused : (m : Answer Recipe) → Refused m → told_derivation m ≡ made.Wrong
+told-refused : (m : Answer Recipe) → Refused m → told_derivation m ≡ None
 unfolding told_derivation
 told-refused m r = ap told_derivation r.2
 
 checked_yes : (n p : ℕ) (t : Bool) (m : Answer Recipe) → t ≡ true → told_derivation (check n p t >> m) ≡ told_derivation m
 checked_yes n p t m e = ap told_derivation (check-then n p t m e)
 
-checked_no : (n p : ℕ) (t : Bool) (m : Answer Recipe) → t ≡ false → told_derivation (check n p t >> m) ≡ made.Wrong
+checked_no : (n p : ℕ) (t : Bool) (m : Answer Recipe) → t ≡ false → told_derivation (check n p t >> m) ≡ None
 checked_no n p t m e = told-refused _ (check-refused n p t m e)
 
 -- what is read, by g: refused, a value, or one that no value will do for
 module _ {A : Type 0} (g : A → Answer Recipe) where
-  read-refused : (m : Answer A) → Refused m → told_derivation (m >>= g) ≡ made.Wrong
+  read-refused : (m : Answer A) → Refused m → told_derivation (m >>= g) ≡ None
   unfolding ◌>>=◌ told_derivation
   read-refused m r = ap (λ (x : Answer A). told_derivation (x >>= g)) r.2
 
@@ -67,22 +69,22 @@ module _ {A : Type 0} (g : A → Answer Recipe) where
   unfolding ◌>>=◌
   read_ok m a e = ap (λ (x : Answer A). told_derivation (x >>= g)) e
 
-  read-never : ((a : A) → told_derivation (g a) ≡ made.Wrong) → (m : Answer A) → told_derivation (m >>= g) ≡ made.Wrong
+  read-never : ((a : A) → told_derivation (g a) ≡ None) → (m : Answer A) → told_derivation (m >>= g) ≡ None
   unfolding ◌>>=◌ told_derivation
   read-never h (ok a) = h a
   read-never h (refuse n p) = refl
 
 -- OverlayIs: what is refused, and what is a value
-overlay-refused : (m : Answer (List ℕ)) (n : ℕ) → OverlayIs m n layers.Wrong → Refused (m >>= whole (iovl_form n) 0)
+overlay-refused : (m : Answer (List ℕ)) (n : ℕ) → OverlayIs m n None → Refused (m >>= whole (iovl_form n) 0)
 unfolding ◌>>=◌
 overlay-refused (ok b) n e = told_no_overlay b _ (sym e)
 overlay-refused (refuse k p) n e = (k, p, refl)
 
-overlay_read : (m : Answer (List ℕ)) (n w h k : ℕ) → OverlayIs m n (layers.Is w h k) →
-    (o : Overlay) × ((m >>= whole (iovl_form n) 0) ≡ ok o) × (o.wide ≡ w) × (o.high ≡ h)
+overlay_read : (m : Answer (List ℕ)) (n : ℕ) (r : overlays.Overlay) → OverlayIs m n (Some r) →
+    (o : Overlay) × ((m >>= whole (iovl_form n) 0) ≡ ok o) × (o.wide ≡ r.wide) × (o.high ≡ r.high)
 unfolding ◌>>=◌
-overlay_read (ok b) n w h k e = let o = told-overlay b _ w h k (sym e) in (o.overlay, o.is, o.wide, o.high)
-overlay_read (refuse i p) n w h k e = let z : ◌≡◌ {A = ℕ} 0 1 = cc in absurd (omega arith)
+overlay_read (ok b) n r e = let o = told-overlay b _ r (sym e) in (o.overlay, o.is, o.wide, o.high)
+overlay_read (refuse i p) n r e = cc
 
 -- tiles_of
 module _ (total : ℕ) (head : List ℕ) (f : File) (item : Item) where
@@ -96,42 +98,42 @@ module _ (total : ℕ) (head : List ℕ) (f : File) (item : Item) where
   unfolding tiles_of
   tiles_read = ap told_derivation (sym (bind_assoc (its_body total head f item) (whole grid_form 0) tile))
 
-  pub tiles_wrong : tiles.Wrong ≡ told_grid its_grid → made.Wrong ≡ told_derivation (tiles_of total head f item)
+  pub tiles_wrong : None ≡ told_grid its_grid → None ≡ told_derivation (tiles_of total head f item)
   tiles_wrong e = sym (tiles_read ∙ read-refused tile its_grid (told_no_grid _ (sym e)))
 
-  module _ (r c w h : ℕ) (e : tiles.Is r c w h ≡ told_grid its_grid) where
+  module _ (g : grids.Grid) (e : Some g ≡ told_grid its_grid) where
     abbrev read_tiles : Recipe
-    read_tiles = Tiles (record { rows = r; columns = c; wide = w; high = h })
+    read_tiles = Tiles (record { rows = g.rows; columns = g.columns; wide = g.wide; high = g.high })
 
     tiles_told : told_derivation (tiles_of total head f item) ≡ told_derivation
-        (check 17 item.id (eqb (length (targets_of f item.id)) (r * c)) >> ok read_tiles)
-    tiles_told = tiles_read ∙ read_ok tile its_grid _ (told-grid _ r c w h (sym e))
+        (check 17 item.id (eqb (length (targets_of f item.id)) (g.rows * g.columns)) >> ok read_tiles)
+    tiles_told = tiles_read ∙ read_ok tile its_grid _ (told-grid _ g (sym e))
 
     module _ (n : ℕ) (counted : n ≡ length (targets_of f item.id)) where
-      pub tiles_is : n ≡ r * c → made.Tiles r c w h ≡ told_derivation (tiles_of total head f item)
+      pub tiles_is : n ≡ g.rows * g.columns → Some (made.Tiles g.rows g.columns g.wide g.high) ≡ told_derivation (tiles_of total head f item)
       unfolding told_derivation
-      tiles_is q = sym (tiles_told ∙ checked_yes 17 item.id _ (ok read_tiles) (eq-eqb _ (r * c) (sym counted ∙ q)))
+      tiles_is q = sym (tiles_told ∙ checked_yes 17 item.id _ (ok read_tiles) (eq-eqb _ (g.rows * g.columns) (sym counted ∙ q)))
 
-      pub tiles_inputs : (n ≡ r * c → ⊥) → made.Wrong ≡ told_derivation (tiles_of total head f item)
-      tiles_inputs q = sym (tiles_told ∙ checked_no 17 item.id _ (ok read_tiles) (ne_eqb _ (r * c) (λ z. q (counted ∙ z))))
+      pub tiles_inputs : (n ≡ g.rows * g.columns → ⊥) → None ≡ told_derivation (tiles_of total head f item)
+      tiles_inputs q = sym (tiles_told ∙ checked_no 17 item.id _ (ok read_tiles) (ne_eqb _ (g.rows * g.columns) (λ z. q (counted ∙ z))))
 
 -- n being how many inputs an item has
 module _ (total : ℕ) (head : List ℕ) (f : File) (item : Item) (n : ℕ) (counted : n ≡ length (targets_of f item.id)) where
   -- copy_of
   module _ (k : ℕ) (extents : k ≡ length (location_of f item.id).extents) where
-    pub copy_is : n ≡ 1 → k ≡ 0 → made.Copy ≡ told_derivation (copy_of total head f item)
+    pub copy_is : n ≡ 1 → k ≡ 0 → Some made.Copy ≡ told_derivation (copy_of total head f item)
     unfolding copy_of told_derivation
     copy_is e z = sym (checked_yes 17 item.id _ (ok Copy)
         (both-and _ _ (eq-eqb _ 1 (sym counted ∙ e))
         (nothing-none (location_of f item.id).extents (sym extents ∙ z))))
 
-    pub copy-extents : (k ≡ 0 → ⊥) → made.Wrong ≡ told_derivation (copy_of total head f item)
+    pub copy-extents : (k ≡ 0 → ⊥) → None ≡ told_derivation (copy_of total head f item)
     unfolding copy_of
     copy-extents z = sym (checked_no 17 item.id _ (ok Copy)
         (and_none (eqb (length (targets_of f item.id)) 1) _
         (nothing-some (location_of f item.id).extents (λ q. z (extents ∙ q)))))
 
-  pub copy-inputs : (n ≡ 1 → ⊥) → made.Wrong ≡ told_derivation (copy_of total head f item)
+  pub copy-inputs : (n ≡ 1 → ⊥) → None ≡ told_derivation (copy_of total head f item)
   unfolding copy_of
   copy-inputs e = sym (checked_no 17 item.id _ (ok Copy) (rw (ne_eqb (length (targets_of f item.id)) 1 (λ q. e (counted ∙ q)))))
 
@@ -146,20 +148,20 @@ module _ (total : ℕ) (head : List ℕ) (f : File) (item : Item) (n : ℕ) (cou
   unfolding layers_of
   layers_read = ap told_derivation (sym (bind_assoc (its_body total head f item) (whole (iovl_form (length (targets_of f item.id))) 0) lay))
 
-  pub layers_none : n ≡ 0 → made.Wrong ≡ told_derivation (layers_of total head f item)
+  pub layers_none : n ≡ 0 → None ≡ told_derivation (layers_of total head f item)
   layers_none e = sym (layers_read ∙ read-never lay
       (λ o. checked_no 17 item.id _ (ok (Layers o)) (le-ltb 0 (length (targets_of f item.id)) (omega arith))) its_overlay)
 
-  pub layers_wrong : OverlayIs (its_body total head f item) n layers.Wrong → made.Wrong ≡ told_derivation (layers_of total head f item)
+  pub layers_wrong : OverlayIs (its_body total head f item) n None → None ≡ told_derivation (layers_of total head f item)
   layers_wrong e =
       sym (layers_read ∙ read-refused lay its_overlay (overlay-refused _ _
-      (subst (λ (k : ℕ). OverlayIs (its_body total head f item) k layers.Wrong) counted e)))
+      (subst (λ (k : ℕ). OverlayIs (its_body total head f item) k None) counted e)))
 
-  pub layers_is : (w h k : ℕ) → OverlayIs (its_body total head f item) n (layers.Is w h k) → (n ≡ 0 → ⊥) →
-      made.Layers w h ≡ told_derivation (layers_of total head f item)
+  pub layers_is : (r : overlays.Overlay) → OverlayIs (its_body total head f item) n (Some r) → (n ≡ 0 → ⊥) →
+      Some (made.Layers r.wide r.high) ≡ told_derivation (layers_of total head f item)
   unfolding told_derivation
-  layers_is w h k e some =
-      let o = overlay_read _ _ w h k (subst (λ (i : ℕ). OverlayIs (its_body total head f item) i (layers.Is w h k)) counted e) in
+  layers_is r e some =
+      let o = overlay_read _ _ r (subst (λ (i : ℕ). OverlayIs (its_body total head f item) i (Some r)) counted e) in
       sym
       (layers_read
       ∙ read_ok lay its_overlay o.0 o.1
@@ -213,31 +215,31 @@ module _ (total : ℕ) (head : List ℕ) (f : File) (item : Item) (r : Recipe) w
       (λ q. both (λ (m : Answer Recipe). m ≡ ok r → Made r) _ _ _ (λ q. tiles_made) (λ q. layers_made))
 
 -- told_derivation of what derivations make
-told_wrong : (m : Answer Recipe) → ((r : Recipe) → m ≡ ok r → Made r) → told_derivation m ≡ made.Wrong → Refused m
+told_wrong : (m : Answer Recipe) → ((r : Recipe) → m ≡ ok r → Made r) → is_some (told_derivation m) ≡ false → Refused m
 unfolding told_derivation
 told_wrong (ok Coded) h e = absurd (h Coded refl)
-told_wrong (ok Copy) h e = let z : ◌≡◌ {A = ℕ} 0 1 = cc in absurd (omega arith)
+told_wrong (ok Copy) h e = cc
 told_wrong (ok Opaque) h e = absurd (h Opaque refl)
-told_wrong (ok (Tiles g)) h e = let z : ◌≡◌ {A = ℕ} 0 1 = cc in absurd (omega arith)
-told_wrong (ok (Layers o)) h e = let z : ◌≡◌ {A = ℕ} 0 1 = cc in absurd (omega arith)
+told_wrong (ok (Tiles g)) h e = cc
+told_wrong (ok (Layers o)) h e = cc
 told_wrong (refuse n p) h e = (n, p, refl)
 
-told-right : (m : Answer Recipe) → (told_derivation m ≡ made.Wrong → ⊥) → (r : Recipe) × (m ≡ ok r)
+told-right : (m : Answer Recipe) → is_some (told_derivation m) ≡ true → (r : Recipe) × (m ≡ ok r)
 unfolding told_derivation
-told-right (ok r) n = (r, refl)
-told-right (refuse k p) n = absurd (n refl)
+told-right (ok r) e = (r, refl)
+told-right (refuse k p) e = cc
 
 -- rule17
-unfaulted : (m : Answer (Unit {0})) → m ≡ ok tt → 17 ≡ fault_of m → ⊥
+unfaulted : (m : Answer (Unit {0})) → m ≡ ok tt → Some 17 ≡ fault_of m → ⊥
 unfolding fault_of
-unfaulted m e q = let z : ◌≡◌ {A = ℕ} 17 0 = q ∙ ap fault_of e in omega arith
+unfaulted m e q = let z : ◌≡◌ {A = Option ℕ} (Some 17) None = q ∙ ap fault_of e in cc
 
 module _ (total : ℕ) (head : List ℕ) (f : File) (item : Item) where
-  for_refused : Refused (recipe_for total head f item) → 17 ≡ fault_of (rule17 total head f item)
+  for_refused : Refused (recipe_for total head f item) → Some 17 ≡ fault_of (rule17 total head f item)
   unfolding rule17 as_rule17 fault_of ◌>>=◌
   for_refused r = rw r.2 refl
 
-  for_right : (r : Recipe) → recipe_for total head f item ≡ ok r → 0 ≡ fault_of (rule17 total head f item)
+  for_right : (r : Recipe) → recipe_for total head f item ≡ ok r → None ≡ fault_of (rule17 total head f item)
   unfolding rule17 as_rule17 fault_of ◌>>=◌
   for_right r e = rw e refl
 
@@ -253,10 +255,10 @@ module _ (total : ℕ) (head : List ℕ) (f : File) (item : Item) where
 
     -- n being how many inputs it has
     module _ (n : ℕ) (counted : n ≡ length (targets_of f item.id)) where
-      pub plain-fed : n ≡ 0 → 0 ≡ fault_of (rule17 total head f item)
+      pub plain-fed : n ≡ 0 → None ≡ fault_of (rule17 total head f item)
       plain-fed z = for_right _ (recipe-plain ∙ check-then 17 item.id _ _ (nothing-none (targets_of f item.id) (sym counted ∙ z)))
 
-      pub plain_inputs : (n ≡ 0 → ⊥) → 17 ≡ fault_of (rule17 total head f item)
+      pub plain_inputs : (n ≡ 0 → ⊥) → Some 17 ≡ fault_of (rule17 total head f item)
       plain_inputs z = for_refused (rw recipe-plain (check-refused 17 item.id _ _ (nothing-some (targets_of f item.id) (λ q. z (counted ∙ q)))))
 
   -- of a derived item
@@ -265,14 +267,14 @@ module _ (total : ℕ) (head : List ℕ) (f : File) (item : Item) where
     unfolding recipe_for
     recipe-derived = pick_yes _ _ d
 
-    pub derived-inputs : all_images f (targets_of f item.id) ≡ false → 17 ≡ fault_of (rule17 total head f item)
+    pub derived-inputs : all_images f (targets_of f item.id) ≡ false → Some 17 ≡ fault_of (rule17 total head f item)
     derived-inputs e = for_refused (rw recipe-derived (check-refused 17 item.id _ _ e))
 
     -- the recipe is what the derivation makes
     pub derived-recipe : (r : Recipe) → recipe_of total head f item ≡ ok r → derivation_for total head f item ≡ ok r
     derived-recipe r e = (then_ok _ _ r (sym recipe-derived ∙ rule-17-ok item.id (recipe_for total head f item) r e)).2
 
-    pub derived_bodyless : Refused (its_body total head f item) → 17 ≡ fault_of (rule17 total head f item)
+    pub derived_bodyless : Refused (its_body total head f item) → Some 17 ≡ fault_of (rule17 total head f item)
     derived_bodyless r = for_refused (rw recipe-derived (then-refused 17 item.id _ _ (bodyless total head f item r)))
 
     -- so that an item that keeps 17 has a body
@@ -283,11 +285,11 @@ module _ (total : ℕ) (head : List ℕ) (f : File) (item : Item) where
         by (ok b) z = (b, z)
         by (refuse n p) z = absurd (unfaulted _ e (derived_bodyless (n, p, z)))
 
-    module _ (x : Derivation) (told : x ≡ told_derivation (derivation_for total head f item)) where
-      pub derived_wrong : x ≡ made.Wrong → 17 ≡ fault_of (rule17 total head f item)
+    module _ (x : Option Derivation) (told : x ≡ told_derivation (derivation_for total head f item)) where
+      pub derived_wrong : is_some x ≡ false → Some 17 ≡ fault_of (rule17 total head f item)
       derived_wrong e = for_refused (rw recipe-derived (then-refused 17 item.id _ _
-          (told_wrong (derivation_for total head f item) (derivation_made total head f item) (sym told ∙ e))))
+          (told_wrong (derivation_for total head f item) (derivation_made total head f item) (sym (ap is_some told) ∙ e))))
 
-      pub derived-fed : (x ≡ made.Wrong → ⊥) → all_images f (targets_of f item.id) ≡ true → 0 ≡ fault_of (rule17 total head f item)
-      derived-fed n e = let r = told-right (derivation_for total head f item) (λ q. n (told ∙ q)) in
+      pub derived-fed : is_some x ≡ true → all_images f (targets_of f item.id) ≡ true → None ≡ fault_of (rule17 total head f item)
+      derived-fed s e = let r = told-right (derivation_for total head f item) (sym (ap is_some told) ∙ s) in
           for_right r.0 (recipe-derived ∙ check-then 17 item.id _ _ e ∙ r.1)

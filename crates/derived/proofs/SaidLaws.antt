@@ -6,6 +6,7 @@ use native.Mathlib.Decide.{dec_lt}
 use mathlib.Core.Path.{◌≡◌, refl, sym, ap, subst, ◌∙◌}
 use mathlib.Core.List.{List, []}
 use mathlib.Core.Logic.{◌⊎◌, inl, inr}
+use Rattle.std.specs.Prelude.{Option}
 use lib.ListN.{length, get_or, take, drop, get_or-eq_default}
 use lib.Seq.{sets, length-take-le, get_or-take, ext_get_or}
 use Rattle.fields.specs.Field.{be_at}
@@ -14,8 +15,8 @@ use Rattle.boxes.specs.Answer.{Answer, ok, refuse, ◌>>=◌}
 use Rattle.forms.specs.Form.{whole}
 use Rattle.pictures.specs.Recipe.{field_bytes, grid_form, iovl_form}
 use Rattle.pictures.specs.inner.Told.{told_grid, told_overlay}
-use Rattle.pictures.specs.declared.GridRead.{GridRead}
-use Rattle.pictures.specs.declared.OverlayRead.{OverlayRead}
+use Rattle.pictures.specs.declared.Grid.{Grid}
+use Rattle.pictures.specs.declared.Overlay.{Overlay}
 use Rattle.pictures.proofs.RefusedLaws.{Refused}
 use Rattle.pictures.proofs.GridLaws.{grid-length, grid_wrong}
 use Rattle.pictures.proofs.OverlayLaws.{iovl-length, overlay_wrong}
@@ -50,22 +51,22 @@ overlay-none n few b (inl e) =
 overlay-none n few b (inr h) = overlay-long n few b h
 
 -- of a body m that is read as b
-pub grid_as : (m : Answer (List ℕ)) (b : List ℕ) → ReadAs m b → (r : GridRead) → r ≡ told_grid (whole grid_form 0 b) → r ≡ told_grid (grid_in m)
+pub grid_as : (m : Answer (List ℕ)) (b : List ℕ) → ReadAs m b → (r : Option Grid) → r ≡ told_grid (whole grid_form 0 b) → r ≡ told_grid (grid_in m)
 unfolding ◌>>=◌ told_grid
 grid_as (ok x) b e r q = q ∙ ap (λ (s : List ℕ). told_grid (whole grid_form 0 s)) e
 grid_as (refuse n p) b e r q = q ∙ grid_wrong _ (grid-none b e)
 
-pub overlay_as : (n : ℕ) → n ≤ 2048 → (m : Answer (List ℕ)) (b : List ℕ) → ReadAs m b → (r : OverlayRead) →
+pub overlay_as : (n : ℕ) → n ≤ 2048 → (m : Answer (List ℕ)) (b : List ℕ) → ReadAs m b → (r : Option Overlay) →
     r ≡ told_overlay b (whole (iovl_form n) 0 b) → OverlayIs m n r
 overlay_as n few (ok x) b e r q = q ∙ ap (λ (s : List ℕ). told_overlay s (whole (iovl_form n) 0 s)) e
 overlay_as n few (refuse k p) b e r q = q ∙ overlay_wrong b _ (overlay-none n few b e)
 
 -- of a body that there is
-pub grid-known : (m : Answer (List ℕ)) (b : List ℕ) → m ≡ ok b → (r : GridRead) → r ≡ told_grid (whole grid_form 0 b) → r ≡ told_grid (grid_in m)
+pub grid-known : (m : Answer (List ℕ)) (b : List ℕ) → m ≡ ok b → (r : Option Grid) → r ≡ told_grid (whole grid_form 0 b) → r ≡ told_grid (grid_in m)
 unfolding ◌>>=◌
 grid-known m b e r q = q ∙ sym (ap (λ (x : Answer (List ℕ)). told_grid (grid_in x)) e)
 
-pub overlay-known : (n : ℕ) (m : Answer (List ℕ)) (b : List ℕ) → m ≡ ok b → (r : OverlayRead) →
+pub overlay-known : (n : ℕ) (m : Answer (List ℕ)) (b : List ℕ) → m ≡ ok b → (r : Option Overlay) →
     r ≡ told_overlay b (whole (iovl_form n) 0 b) → OverlayIs m n r
 overlay-known n m b e r q = subst (λ (x : Answer (List ℕ)). OverlayIs x n r) (sym e) q
 

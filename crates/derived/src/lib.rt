@@ -19,7 +19,8 @@ ghost use Rattle.views.specs.inner.Told.{fault_of};
 ghost use Rattle.derived.specs.inner.Told.{Resolved, Followed, RunsFor, is_joined, Readable, HasBody, body_or};
 ghost use Rattle.derived.specs.inner.Told.{FrontIs, grid_in, OverlayIs, derivation_for, told_derivation};
 
-use pictures::{GridRead, OverlayRead};
+use boxes::types::{GRID, IDEN};
+use pictures::{Grid, Overlay};
 use table::{ItemRow, Table};
 
 // The row of the input with a number from 0.
@@ -53,12 +54,10 @@ fn all_images(table: &[u32], rows: &[u32], row: ItemRow) -> bool
         return true;
     }
     let n = input_count(table, row);
-    let mut j: usize = 0;
-    while j < n {
+    for j in 0..n {
         if !views::is_image(views::held_word(table, input_of(table, rows, row, j), 1)) {
             return false;
         }
-        j += 1;
     }
     true
 }
@@ -83,10 +82,7 @@ pub fn is_joined(table: &[u32], row: ItemRow) -> bool
     ensures { (head : List ℕ) (pl : Places) (f : File) → TableOf table.now head pl f →
         row.0 < length f.items → result ≡ is_joined (location_of f (id_of f row.0)) }
 {
-    if views::record_word(table, row, 8) != 1 {
-        return true;
-    }
-    views::record_word(table, row, 9) == 2
+    views::record_word(table, row, 8) != 1 || views::record_word(table, row, 9) == 2
 }
 
 // Of a joined body the first 18 bytes, or all that there are and zeros behind them, and its length.
@@ -103,7 +99,7 @@ fn front_of(head: &[u8], table: &[u32], rows: &[u32], row: ItemRow) -> Front
     ensures bytes_len { length result.bytes ≡ 18 }
 {
     let size = joining::length_of(table, row);
-    let n = if size < 18 { size as usize } else { 18 };
+    let n = size.min(18) as usize;
     let mut bytes = [0u8; 18];
     joining::copy_bytes(head, table, rows, row, 0, n, &mut bytes);
     Front { bytes, size }
@@ -115,14 +111,14 @@ const LONGEST_GRID: u64 = 12;
 const LONGEST: u64 = 16402;
 
 // What the body of a `grid` says that is joined from several pieces.
-fn joined_grid(head: &[u8], table: &[u32], rows: &[u32], row: ItemRow) -> GridRead
+fn joined_grid(head: &[u8], table: &[u32], rows: &[u32], row: ItemRow) -> Option<Grid>
     ensures { (total : ℕ) (f : File) → Followed table.now rows.now head.now total f →
         row.0 < length f.items → (b : List ℕ) → body_of total head.now f (id_of f row.0) ≡ ok b →
         result ≡ told_grid (whole grid_form 0 b) }
 {
     let f = front_of(head, table, rows, row);
     if LONGEST_GRID < f.size {
-        return GridRead::Wrong;
+        return None;
     }
     let n = f.size as usize;
     let bytes = f.bytes;
@@ -136,7 +132,7 @@ pub fn joined_overlay(
     rows: &[u32],
     row: ItemRow,
     n: usize,
-) -> OverlayRead
+) -> Option<Overlay>
     requires { n ≤ 2048 }
     ensures { (total : ℕ) (f : File) → Followed table.now rows.now head.now total f →
         row.0 < length f.items → (b : List ℕ) → body_of total head.now f (id_of f row.0) ≡ ok b →
@@ -144,14 +140,14 @@ pub fn joined_overlay(
 {
     let f = front_of(head, table, rows, row);
     if LONGEST < f.size {
-        return OverlayRead::Wrong;
+        return None;
     }
     let bytes = f.bytes;
     pictures::read_front(&bytes, f.size as usize, n)
 }
 
 // What the body of a `grid` says.
-pub fn grid_of(head: &[u8], table: &[u32], rows: &[u32], row: ItemRow) -> GridRead
+pub fn grid_of(head: &[u8], table: &[u32], rows: &[u32], row: ItemRow) -> Option<Grid>
     ensures { (total : ℕ) (f : File) → Followed table.now rows.now head.now total f →
         row.0 < length f.items → Readable total head.now f (id_of f row.0) →
         result ≡ told_grid (grid_in (body_of total head.now f (id_of f row.0))) }
@@ -163,7 +159,7 @@ pub fn grid_of(head: &[u8], table: &[u32], rows: &[u32], row: ItemRow) -> GridRe
 }
 
 // How the reconstructed image of a derived item comes about, whatever its inputs are.
-#[derive(Drop)]
+#[derive(Clone, Copy)]
 pub enum Derivation {
     Copy,
     Tiles {
@@ -176,52 +172,39 @@ pub enum Derivation {
         wide: u32,
         high: u32,
     },
-    Wrong,
 }
 
 // `iden`: one input, no extents.
-fn copy_of(table: &[u32], row: ItemRow) -> Derivation
+fn copy_of(table: &[u32], row: ItemRow) -> Option<Derivation>
     ensures { (total : ℕ) (head : List ℕ) (pl : Places) (f : File) → TableOf table.now head pl f →
         row.0 < length f.items → result ≡ told_derivation (copy_of total head f (item_at f row.0)) }
 {
-    if input_count(table, row) == 1 {
-        if views::record_word(table, row, 8) == 0 {
-            return Derivation::Copy;
-        }
+    if input_count(table, row) == 1 && views::record_word(table, row, 8) == 0 {
+        return Some(Derivation::Copy);
     }
-    Derivation::Wrong
+    None
 }
 
 // `grid`: as many inputs as rows × columns.
-fn tiles_of(head: &[u8], table: &[u32], rows: &[u32], row: ItemRow) -> Derivation
+fn tiles_of(head: &[u8], table: &[u32], rows: &[u32], row: ItemRow) -> Option<Derivation>
     ensures { (total : ℕ) (f : File) → Followed table.now rows.now head.now total f →
         row.0 < length f.items → Readable total head.now f (id_of f row.0) →
         result ≡ told_derivation (tiles_of total head.now f (item_at f row.0)) }
 {
-    let g = grid_of(head, table, rows, row);
-    match g {
-        GridRead::Wrong => Derivation::Wrong,
-        GridRead::Is {
-            rows,
-            columns,
-            wide,
-            high,
-        } => {
-            if input_count(table, row) as u64 == (rows as u64) * (columns as u64) {
-                return Derivation::Tiles {
-                    rows,
-                    columns,
-                    wide,
-                    high,
-                };
-            }
-            Derivation::Wrong
-        }
+    let g = grid_of(head, table, rows, row)?;
+    if input_count(table, row) as u64 == (g.rows as u64) * (g.columns as u64) {
+        return Some(Derivation::Tiles {
+            rows: g.rows,
+            columns: g.columns,
+            wide: g.wide,
+            high: g.high,
+        });
     }
+    None
 }
 
 // What the body of an `iovl` of n inputs says, but for its offsets.
-fn overlay_of(head: &[u8], table: &[u32], rows: &[u32], row: ItemRow, n: usize) -> OverlayRead
+fn overlay_of(head: &[u8], table: &[u32], rows: &[u32], row: ItemRow, n: usize) -> Option<Overlay>
     requires { n ≤ 2048 }
     ensures { (total : ℕ) (f : File) → Followed table.now rows.now head.now total f →
         row.0 < length f.items → Readable total head.now f (id_of f row.0) →
@@ -234,42 +217,31 @@ fn overlay_of(head: &[u8], table: &[u32], rows: &[u32], row: ItemRow, n: usize) 
 }
 
 // `iovl`: an offset per input, at least one input.
-fn layers_of(head: &[u8], table: &[u32], rows: &[u32], row: ItemRow) -> Derivation
+fn layers_of(head: &[u8], table: &[u32], rows: &[u32], row: ItemRow) -> Option<Derivation>
     ensures { (total : ℕ) (f : File) → Followed table.now rows.now head.now total f →
         row.0 < length f.items → Readable total head.now f (id_of f row.0) →
         result ≡ told_derivation (layers_of total head.now f (item_at f row.0)) }
 {
     let n = input_count(table, row);
-    if n == 0 {
-        return Derivation::Wrong;
+    if n == 0 || 2048 < n {
+        return None;
     }
-    if 2048 < n {
-        return Derivation::Wrong;
-    }
-    let o = overlay_of(head, table, rows, row, n);
-    match o {
-        OverlayRead::Wrong => Derivation::Wrong,
-        OverlayRead::Is {
-            wide,
-            high,
-            bytes: _,
-        } => Derivation::Layers { wide, high },
-    }
+    let o = overlay_of(head, table, rows, row, n)?;
+    Some(Derivation::Layers {
+        wide: o.wide,
+        high: o.high,
+    })
 }
 
-const IDEN: u32 = 0x6964656e;
-
-const GRID: u32 = 0x67726964;
-
 // What the body of a derived item makes. No table of a file is shorter: the one test spares the readers of its words their own.
-pub fn derivation_of(head: &[u8], table: &[u32], rows: &[u32], row: ItemRow) -> Derivation
+pub fn derivation_of(head: &[u8], table: &[u32], rows: &[u32], row: ItemRow) -> Option<Derivation>
     ensures { (total : ℕ) (f : File) → Followed table.now rows.now head.now total f →
         row.0 < length f.items → Readable total head.now f (id_of f row.0) →
         derived (item_at f row.0).type ≡ true →
         result ≡ told_derivation (derivation_for total head.now f (item_at f row.0)) }
 {
     if table.len() < Table::WORDS {
-        return Derivation::Wrong;
+        return None;
     }
     let kind = views::type_of(table, row);
     if kind == IDEN {
@@ -298,45 +270,47 @@ fn has_body(head: &[u8], table: &[u32], rows: &[u32], runs: &[u16; 512], row: It
 }
 
 // 17 for the derived item in a row: its body says how it is made, and its inputs are pictures.
-fn made_fault(head: &[u8], table: &[u32], rows: &[u32], runs: &[u16; 512], row: ItemRow) -> u32
+fn made_fault(
+    head: &[u8],
+    table: &[u32],
+    rows: &[u32],
+    runs: &[u16; 512],
+    row: ItemRow,
+) -> Option<u32>
     ensures { (total : ℕ) (f : File) → Followed table.now rows.now head.now total f →
         row.0 < length f.items → Resolved table.now rows.now f →
         RunsFor table.now rows.now (length head.now) f runs.now →
         derived (item_at f row.0).type ≡ true → result ≡ fault_of (rule17 total head.now f (item_at f row.0)) }
 {
     if !has_body(head, table, rows, runs, row) {
-        return 17;
+        return Some(17);
     }
-    let d = derivation_of(head, table, rows, row);
-    match d {
-        Derivation::Wrong => 17,
-        _ => {
-            if all_images(table, rows, row) {
-                return 0;
-            }
-            17
-        }
+    let made = derivation_of(head, table, rows, row).is_some();
+    if made && all_images(table, rows, row) {
+        return None;
     }
+    Some(17)
 }
 
-// 17 for the item in a row, 0 where it is not given: only derived items have inputs. What is asked of these stands apart, so that most items hand nothing on.
+// 17 for the item in a row, where it is given: only derived items have inputs. What is asked of these stands apart, so that most items hand nothing on.
 pub fn derived_fault(
     head: &[u8],
     table: &[u32],
     rows: &[u32],
     runs: &[u16; 512],
     row: ItemRow,
-) -> u32
+) -> Option<u32>
     ensures { (total : ℕ) (f : File) → Followed table.now rows.now head.now total f →
         row.0 < length f.items → Resolved table.now rows.now f →
         RunsFor table.now rows.now (length head.now) f runs.now →
         result ≡ fault_of (rule17 total head.now f (item_at f row.0)) }
 {
     if !views::is_derived(views::type_of(table, row)) {
-        if input_count(table, row) == 0 {
-            return 0;
-        }
-        return 17;
+        return if input_count(table, row) == 0 {
+            None
+        } else {
+            Some(17)
+        };
     }
     made_fault(head, table, rows, runs, row)
 }

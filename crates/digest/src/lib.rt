@@ -5,23 +5,17 @@
 ghost use Rattle.std.specs.Prelude.{◌≡◌, ◌<◌, length};
 
 fn add(a: u32, b: u32) -> u32 {
-    std::num::wrapping_add_u32(a, b)
+    a.wrapping_add(b)
 }
 
 // The bits turned right by k.
 fn turned(x: u32, k: u32) -> u32 {
-    if k < 1 {
-        return x;
-    }
-    if 31 < k {
-        return x;
-    }
-    (x >> k) | (x << (32 - k))
+    x.rotate_right(k)
 }
 
 // The bytes of a word the other way round.
 fn swapped(x: u32) -> u32 {
-    (x << 24) | ((x << 8) & 0x00ff0000) | ((x >> 8) & 0x0000ff00) | (x >> 24)
+    x.swap_bytes()
 }
 
 // The cube roots' bits.
@@ -46,10 +40,8 @@ fn begun(b: [u32; 16]) -> [u32; 64]
     ensures { 64 ≡ length result }
 {
     let mut w = [0u32; 64];
-    let mut i: usize = 0;
-    while i < 16 {
-        w[i] = table::word(&b, i);
-        i += 1;
+    for i in 0..16 {
+        w[i] = b[i];
     }
     w
 }
@@ -59,8 +51,7 @@ fn drawn_out(b: [u32; 16]) -> [u32; 64]
     ensures { 64 ≡ length result }
 {
     let mut w = begun(b);
-    let mut i: usize = 16;
-    while i < 64 {
+    for i in 16..64 {
         let x = table::word(&w, i - 15);
         let y = table::word(&w, i - 2);
         let p = turned(x, 7) ^ turned(x, 18) ^ (x >> 3);
@@ -70,7 +61,6 @@ fn drawn_out(b: [u32; 16]) -> [u32; 64]
             add(table::word(&w, i - 7), q),
         );
         w[i] = v;
-        i += 1;
     }
     w
 }
@@ -104,11 +94,8 @@ fn with_block(h: [u32; 8], b: [u32; 16]) -> [u32; 8]
 {
     let w = drawn_out(b);
     let mut g = h;
-    let mut i: usize = 0;
-    while i < 64 {
-        let t = turn(g, table::word(&w, i), root(i));
-        g = t;
-        i += 1;
+    for i in 0..64 {
+        g = turn(g, w[i], root(i));
     }
     [
         add(h[0], g[0]),
@@ -127,10 +114,8 @@ fn block_of(table: &[u32], number: usize) -> [u32; 16]
     requires { number < 65536 }
 {
     let mut b = [0u32; 16];
-    let mut i: usize = 0;
-    while i < 16 {
+    for i in 0..16 {
         b[i] = swapped(table::word(table, 16 * number + i));
-        i += 1;
     }
     b
 }
@@ -154,12 +139,10 @@ pub fn of_table(table: &[u32]) -> [u32; 8]
     ensures { 8 ≡ length result }
 {
     let mut h = opening();
-    let mut k: usize = 0;
-    while k < 705 {
+    for k in 0..705 {
         let b = block_of(table, k);
         let g = with_block(h, b);
         h = g;
-        k += 1;
     }
     with_block(h, closing())
 }

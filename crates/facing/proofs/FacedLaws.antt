@@ -6,6 +6,7 @@ use mathlib.Core.Path.{◌≡◌, refl, sym, ap, subst, ◌∙◌}
 use mathlib.Core.List.{List, []}
 use mathlib.Core.Bool.{true, false}
 use lib.ListN.{length, get_or, drop, drop_of_length-le}
+use Rattle.std.specs.Prelude.{Some, None}
 use Rattle.fields.proofs.FieldLaws.{pick_yes, pick_no}
 use Rattle.fields.proofs.TestLaws.{member-at}
 use Rattle.boxes.specs.Box.{kind_of, body_of}
@@ -22,7 +23,6 @@ use Rattle.views.specs.inner.View.{TableOf}
 use Rattle.declared.proofs.NamedLaws.{types_many}
 use Rattle.declared.proofs.SizeLaws.{boxes-left, kind_said, turn_read}
 use Rattle.facing.specs.declared.Facing.{Facing}
-use Rattle.facing.specs.declared.Faced.TheVariants.{Is, Cropped}
 use Rattle.facing.specs.Facings.{facing, turn_facing, joined_facing, chain_facing, number_of}
 use Rattle.facing.specs.Told.{told_faced}
 use Rattle.facing.proofs.TurnsLaws.{Clear, clear_more, turn_same}
@@ -38,7 +38,7 @@ faced_none bs j h m e = rw (drop_of_length-le bs h) (refl, λ s. e)
 -- from the box with number j on, whose type is k
 module _ {t head : List ℕ} {pl : Places} {f : File} (v : TableOf t head pl f) (id j : ℕ) (l : j < length (associations_of f id))
     (k : ℕ) (e : k ≡ get_or (types_of f id) j 0) where
-  pub faced_clap : k ≡ clap → (s : Size) → Cropped ≡ told_faced f s id
+  pub faced_clap : k ≡ clap → (s : Size) → None ≡ told_faced f s id
   unfolding told_faced
   faced_clap q s = sym (pick_yes _ _ (member-at clap (types_of f id) j (omega (arith, types_many f id)) (sym e ∙ q)))
 
@@ -78,8 +78,8 @@ module _ {t head : List ℕ} {pl : Places} {f : File} (v : TableOf t head pl f) 
         )
 
 -- all boxes
-pub faced_all : (f : File) (id : ℕ) (m : Facing) (j : ℕ) → j ≡ 0 → FacedFrom (boxes_of f id) j m → (s : Size) → Is (number_of m) ≡ told_faced f s id
+pub faced_all : (f : File) (id : ℕ) (m : Facing) (j : ℕ) → j ≡ 0 → FacedFrom (boxes_of f id) j m → (s : Size) → Some (number_of m) ≡ told_faced f s id
 unfolding told_faced
 faced_all f id m j e w s =
     let h = subst (λ (j : ℕ). FacedFrom (boxes_of f id) j m) e w in
-    ap (λ (m : Facing). Is (number_of m)) (h.1 s) ∙ sym (pick_no _ _ h.0)
+    ap (λ (m : Facing). Some (number_of m)) (h.1 s) ∙ sym (pick_no _ _ h.0)

@@ -54,5 +54,5 @@ pub fn added(sum: u64, x: u32) -> u64
     requires { sum < 4294967296 }
     ensures { (result ≡ (sum * 31 + x) % 4294967296) × (result < 4294967296) }
 {
-    (sum * 31 + (x as u64)) % 4294967296
+    (sum * 31 + u64::from(x)) % 4294967296
 }

@@ -15,49 +15,38 @@ pub fn new_table() -> [u32; 11280]
     [0; 11280]
 }
 
-#[derive(Drop)]
-enum Counted {
-    Is(u64),
-    Failed,
-}
-
-// Counts on to the end of what is read. It stops at 2^62, far past any file.
-fn count_on<R: Read>(reader: &mut R, kept: u64) -> Counted
+// Counts on to the end of what is read, or tells that a read failed. It stops at 2^62, far past any file.
+fn count_on<R: Read>(reader: &mut R, kept: u64) -> Option<u64>
     ensures { AtLeast kept result }
 {
     let mut buffer = io::large_buffer();
     let mut total = kept;
+    // A while: how often it reads is not known before.
     while total < 4611686018427387904 {
-        let Ok(n) = reader.read(&mut buffer) else {
-            return Counted::Failed;
-        };
+        let n = reader.read(&mut buffer).ok()?;
         if n == 0 {
-            return Counted::Is(total);
+            return Some(total);
         }
         total += n as u64;
     }
-    Counted::Is(total)
+    Some(total)
 }
 
-#[derive(Drop)]
-pub enum Input {
-    // How many bytes stand at the start of the head that was lent, and how many there were in all.
-    Is { here: usize, total: u64 },
-    // A read failed.
-    Failed,
+// How many bytes stand at the start of the head that was lent, and how many there were in all.
+#[derive(Clone, Copy)]
+pub struct Input {
+    pub here: usize,
+    pub total: u64,
 }
 
-// Reads standard input to its end: fills the head that is lent, and counts what follows. Where a read fails while the head
-// is filled, counting on meets that again.
-pub fn read_input(rt: &HostRuntime, head: &mut [u8]) -> Input
+// Reads standard input to its end: fills the head that is lent, and counts what follows; nothing where a read fails. One that
+// fails while the head is filled, counting on meets again.
+pub fn read_input(rt: &HostRuntime, head: &mut [u8]) -> Option<Input>
     ensures { Within head.new result }
 {
     let here = io::read_full(0, head);
-    let counted = count_on(&mut rt.stdin(), here as u64);
-    match counted {
-        Counted::Failed => Input::Failed,
-        Counted::Is(total) => Input::Is { here, total },
-    }
+    let total = count_on(&mut rt.stdin(), here as u64)?;
+    Some(Input { here, total })
 }
 
 // How many arguments there are, the program's own name among them.
@@ -80,11 +69,7 @@ fn has_argument(rt: &impl Env, i: usize) -> bool {
 pub fn argument(rt: &impl Env, i: usize, text: &mut [u8]) -> usize
     ensures { IsPrefixLen result text.new }
 {
-    let got = rt.arg(i, text);
-    match got {
-        Ok(n) => n,
-        Err(_) => 0,
-    }
+    rt.arg(i, text).unwrap_or(0)
 }
 
 // What a program says where a read failed.

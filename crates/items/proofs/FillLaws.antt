@@ -16,12 +16,10 @@ use Rattle.records.specs.inner.Keys.{key_of, no_key, keys_from, Keyed}
 use Rattle.records.specs.inner.Stage.{Kept, with_items}
 use Rattle.records.proofs.RawLaws.{raw-item}
 use Rattle.items.specs.declared.Keys.{Keys}
-use Rattle.items.specs.declared.Info.{Info}
 use Rattle.items.specs.declared.NextItem.{NextItem}
-use Rattle.items.specs.declared.NextItem.TheVariants as next
-use Rattle.items.specs.declared.ItemsRead.{ItemsRead}
-use Rattle.items.specs.declared.ItemsRead.TheVariants as read
-use Rattle.items.specs.inner.Told.{told_items, Held, RoomAt, item_of, NextIs, row_put, Stored, KeysLeft}
+use Rattle.std.specs.Prelude.{Result, Ok, Err}
+use Rattle.boxes.specs.Told.{told}
+use Rattle.items.specs.inner.Told.{Held, RoomAt, item_of, NextIs, row_put, Stored, KeysLeft}
 use Rattle.items.proofs.TableLaws.{put-kept}
 use Rattle.items.proofs.HeldLaws.{keys-held}
 use Rattle.items.proofs.StepLaws.{exactly_from, exactly-end, exactly-left}
@@ -94,28 +92,28 @@ module _ (s : List ℕ) (from n place base : ℕ) (t₀ : List ℕ) where
       }
 
   -- what the code returns for the items, and leaves in the table and as keys
-  abbrev pub Tells : ItemsRead → List ℕ → List ℕ → Type 0
-  Tells r t m = (r ≡ told_items answer) × (Stored answer t₀ t × KeysLeft answer m)
+  abbrev pub Tells : Result ℕ Refusal → List ℕ → List ℕ → Type 0
+  Tells r t m = (r ≡ told length answer) × (Stored answer t₀ t × KeysLeft answer m)
 
   module _ (t : List ℕ) (at : ℕ) (b : Keys) (m : List ℕ) (i : ℕ) (so : So t at b m i) where
-    tells_refused : (n q : ℕ) → answer ≡ refuse n q → Tells (read.Refused (record { number = n; place = q })) t m
-    unfolding told_items
-    tells_refused n q e = (sym (ap told_items e), (stored_refused answer t₀ t so.kept n q e, no_keys answer n q e m))
+    tells_refused : (n q : ℕ) → answer ≡ refuse n q → Tells (Err (record { number = n; place = q })) t m
+    unfolding told
+    tells_refused n q e = (sym (ap (told length) e), (stored_refused answer t₀ t so.kept n q e, no_keys answer n q e m))
 
     -- after the last box
     module _ (h : n ≤ i) where
       last : answer ≡ exactly_from infe_step place base s 0 at so.items
       last = let e : n - i ≡ 0 = omega arith in so.same ∙ ap (λ (k : ℕ). exactly_from infe_step place base s k at so.items) e
 
-      pub left_over : at < length s → Tells (read.Refused (record { number = 8; place = place })) t m
+      pub left_over : at < length s → Tells (Err (record { number = 8; place = place })) t m
       left_over l = tells_refused 8 place (last ∙ exactly-left infe_step place base s at so.items l)
 
-      pub all_read : length s ≤ at → Tells (read.Items n) t m
-      unfolding told_items
+      pub all_read : length s ≤ at → Tells (Ok n) t m
+      unfolding told
       all_read l =
           let e : answer ≡ ok so.items = last ∙ exactly-end infe_step place base s at so.items l in
           let k : n ≡ length so.items = omega (arith, so.count, so.few) in (
-            ap read.Items k ∙ sym (ap told_items e),
+            ap Ok k ∙ sym (ap (told length) e),
             (
               stored_ok answer t₀ t so.kept so.items e so.told,
               λ is q. subst (λ (l : List Item). Keyed (ids_of l) m) (ok_inj so.items is (sym e ∙ q)) (keys-held _ b m so.keys),
@@ -123,47 +121,41 @@ module _ (s : List ℕ) (from n place base : ℕ) (t₀ : List ℕ) where
           )
 
     -- at one more box
-    module _ (h : i < n) (limit : n ≤ 256) (room : 11280 ≤ length t₀) (y : NextItem)
-        (f : (before : List Item) → Held (ids_of before) b m → NextIs s at place base before b y) where
+    module _ (h : i < n) (limit : n ≤ 256) (room : 11280 ≤ length t₀) where
       more : answer ≡ exactly_from infe_step place base s (suc (n - (i + 1))) at so.items
       more = let e : n - i ≡ suc (n - (i + 1)) = omega arith in so.same ∙ ap (λ (k : ℕ). exactly_from infe_step place base s k at so.items) e
 
-      pub gone : (r : Refusal) → y ≡ next.Refused r → Tells (read.Refused r) t m
-      gone r e =
-          let g : NextIs s at place base so.items b (next.Refused r) = subst (NextIs s at place base so.items b) e (f so.items so.keys) in
-          tells_refused r.number r.place (more ∙ g (n - (i + 1)))
+      pub gone : (r : Refusal) → ((before : List Item) → Held (ids_of before) b m → NextIs s at place base before b (Err r)) → Tells (Err r) t m
+      gone r f = tells_refused r.number r.place (more ∙ f so.items so.keys (n - (i + 1)))
 
-      module _ (j : Info) (end : ℕ) (e : y ≡ next.Is j end) where
-        is_next : NextIs s at place base so.items b (next.Is j end)
-        is_next = subst (NextIs s at place base so.items b) e (f so.items so.keys)
-
-        pub goes : RoomAt (ids_of so.items) b j.id.0 j.room
-        goes = is_next.3
+      module _ (x : NextItem) (f : (before : List Item) → Held (ids_of before) b m → NextIs s at place base before b (Ok x)) where
+        is_next : NextIs s at place base so.items b (Ok x)
+        is_next = f so.items so.keys
 
         ids-many : length (ids_of so.items) ≡ i
         ids-many = length-map so.items _ ∙ so.count
 
-        pub ids-few : length (ids_of so.items) < 256
-        ids-few = omega (arith, ids-many)
+        -- what is asked of its key
+        pub its_room : (RoomAt (ids_of so.items) b x.info.id.0 x.info.room) × (length (ids_of so.items) < 256) ×
+            ((k : ℕ) → k ≡ key_of x.info.id.0 i → k ≡ key_of x.info.id.0 (length (ids_of so.items)))
+        its_room = (is_next.3, omega (arith, ids-many), λ k q. q ∙ ap (λ (r : ℕ). key_of x.info.id.0 r) (sym ids-many))
 
-        pub its_key : (k : ℕ) → k ≡ key_of j.id.0 i → k ≡ key_of j.id.0 (length (ids_of so.items))
-        its_key k q = q ∙ ap (λ (r : ℕ). key_of j.id.0 r) (sym ids-many)
-
-        pub stored : (u : List ℕ) (c : Keys) (v : List ℕ) → u ≡ row_put t i (item_of j) →
-            Held (ids_of so.items ++ (j.id.0 ∷ [])) c v → So u end c v (i + 1)
+        pub stored : (u : List ℕ) (c : Keys) (v : List ℕ) → u ≡ row_put t i (item_of x.info) →
+            Held (ids_of so.items ++ (x.info.id.0 ∷ [])) c v → So u x.end c v (i + 1)
         stored u c v eu w =
             let g = is_next in
+            let j : Item = item_of x.info in
             record {
-              items = so.items ++ (item_of j ∷ []);
+              items = so.items ++ (j ∷ []);
               count = rw length-append (omega (arith, so.count));
               few = omega arith;
               here = g.1;
               same = more ∙ g.2 (n - (i + 1));
-              keys = subst (λ (l : List ℕ). Held l c v) (sym (map-append _ so.items (item_of j ∷ []))) w;
-              kept = subst (Kept t₀) (sym eu) (put-kept t i (item_of j) t₀ (omega arith) so.kept);
-              told = λ pl x q.
+              keys = subst (λ (l : List ℕ). Held l c v) (sym (map-append _ so.items (j ∷ []))) w;
+              kept = subst (Kept t₀) (sym eu) (put-kept t i j t₀ (omega arith) so.kept);
+              told = λ pl y q.
                   eu
-                  ∙ ap (λ (v : List ℕ). row_put v i (item_of j)) (so.told pl x q)
-                  ∙ ap (λ (v : ℕ). row_put (raw_of [] pl (with_items so.items) ++ x) v (item_of j)) (sym so.count)
-                  ∙ put-raw pl x so.items (item_of j) (omega (arith, so.count));
+                  ∙ ap (λ (v : List ℕ). row_put v i j) (so.told pl y q)
+                  ∙ ap (λ (v : ℕ). row_put (raw_of [] pl (with_items so.items) ++ y) v j) (sym so.count)
+                  ∙ put-raw pl y so.items j (omega (arith, so.count));
             }

@@ -4,12 +4,12 @@ use native.Mathlib.Decide.{dec_le}
 use native.Mathlib.Omega.{arith}
 use mathlib.Core.Path.{◌≡◌, refl, ap, ◌∙◌}
 use mathlib.Core.List.{List, ◌++◌}
-use lib.ListN.{length, get_or, replicate, length-append, length-replicate}
+use lib.ListN.{length, get_or, replicate}
+use Rattle.std.specs.Prelude.{Some, None}
 use Rattle.records.specs.inner.Keys.{key_of, no_key, LastUpto, keys_of, Keyed}
-use Rattle.records.proofs.KeyedLaws.{keys-long, keys_rise, keyed_before, keyed_at, keyed_behind, keyed_split}
+use Rattle.records.proofs.KeyedLaws.{keys_rise, keyed_before, keyed_at, keyed_behind, keyed_split}
 use Rattle.items.proofs.KeyLaws.{keys_none, keys-some}
 use Rattle.items.specs.declared.Keys.{Keys}
-use Rattle.items.specs.declared.Room.TheVariants as place
 use Rattle.items.specs.inner.Told.{Held, RoomAt, RoomIs}
 
 module _ (ids : List ℕ) (at : Keys) (m : List ℕ) (h : Held ids at m) where
@@ -22,11 +22,6 @@ module _ (ids : List ℕ) (at : Keys) (m : List ℕ) (h : Held ids at m) where
         keys = h.keys ∙ ap (λ (e : ℕ). replicate at.first 0 ++ (keys_of ids ++ replicate (512 - e) no_key)) h.last;
       }
 
-  pub held-512 : length m ≡ 512
-  held-512 =
-      ap length h.keys
-      ∙ simp (length-append, length-replicate) (omega (arith, keys-long ids, h.low, h.few, h.last))
-
   its_word : (j k : ℕ) → k ≡ at.first + j → j < length ids → get_or m k 0 ≡ get_or (keys_of ids) j 0
   unfolding keys-held
   its_word j k e l = keyed_at ids m keys-held k j e l
@@ -34,7 +29,7 @@ module _ (ids : List ℕ) (at : Keys) (m : List ℕ) (h : Held ids at m) where
   -- where the key of an ID goes
   module _ (id : ℕ) where
     -- in each way out no key has the ID
-    none : (room : ℕ) → RoomAt ids at id room → RoomIs ids at id (place.At room)
+    none : (room : ℕ) → RoomAt ids at id room → RoomIs ids at id (Some room)
     none room r = (
       keys_none ids h.few id (λ j l a b. elim (dec_le room (at.first + j)) [
         | yes q ↦ omega (arith, r.more j q l)
@@ -43,7 +38,7 @@ module _ (ids : List ℕ) (at : Keys) (m : List ℕ) (h : Held ids at m) where
       r,
     )
 
-    pub room-last : get_or m (at.end - 1) 0 < key_of id 0 → RoomIs ids at id (place.At at.end)
+    pub room-last : get_or m (at.end - 1) 0 < key_of id 0 → RoomIs ids at id (Some at.end)
     room-last q = none at.end (
         record {
           from = omega (arith, h.last);
@@ -59,7 +54,7 @@ module _ (ids : List ℕ) (at : Keys) (m : List ℕ) (h : Held ids at m) where
         }
         )
 
-    pub room-first : key_of id 0 + 255 < get_or m at.first 0 → RoomIs ids at id (place.At at.first)
+    pub room-first : key_of id 0 + 255 < get_or m at.first 0 → RoomIs ids at id (Some at.first)
     room-first q = none at.first (
         record {
           from = omega arith;
@@ -93,7 +88,7 @@ module _ (ids : List ℕ) (at : Keys) (m : List ℕ) (h : Held ids at m) where
         ],
       )
 
-      pub room-between : get_or m k 0 < key_of id 0 → RoomIs ids at id (place.At (k + 1))
+      pub room-between : get_or m k 0 < key_of id 0 → RoomIs ids at id (Some (k + 1))
       room-between q =
           let i = inside in
           none (k + 1) (
@@ -116,7 +111,7 @@ module _ (ids : List ℕ) (at : Keys) (m : List ℕ) (h : Held ids at m) where
           }
           )
 
-      pub room_taken : key_of id 0 ≤ get_or m k 0 → RoomIs ids at id place.Taken
+      pub room_taken : key_of id 0 ≤ get_or m k 0 → RoomIs ids at id None
       room_taken q =
           let i = inside in
           let w = its_word (k - at.first) k (omega arith) (omega (arith, h.last)) in

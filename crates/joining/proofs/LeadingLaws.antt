@@ -8,6 +8,7 @@ use native.Mathlib.Omega.{arith}
 use mathlib.Core.Path.{◌≡◌, sym, ap, ◌∙◌}
 use mathlib.Core.Bool.{Bool, true, false}
 use lib.Dec.{ltb, leb}
+use Rattle.std.specs.Prelude.{min}
 use borrow.Author.Tests.{lt-ltb, le-ltb, le-leb, lt-leb, ltb-true, ltb-false}
 use Rattle.fields.specs.Choice.{pick}
 use Rattle.fields.proofs.FieldLaws.{both, pick_yes, pick_no}
@@ -62,7 +63,7 @@ module _ (f g h : ℕ → Bool) (l n : ℕ) (near : (i : ℕ) → i < l → f i 
             ap f e ∙ far (j - l) ∙ leading_at h n (j - l) (omega (arith, a))
       ]
 
-  pub leading-joined : pick (ltb (leading g n) l) (leading g n) (pick (ltb (l + leading h n) n) (l + leading h n) n) ≡ leading f n
+  pub leading-joined : pick (ltb (leading g n) l) (leading g n) (min (l + leading h n) n) ≡ leading f n
   leading-joined =
       let a = leading_low g n in
       both (λ (m : ℕ). m ≡ leading f n) _ _ _
@@ -70,12 +71,9 @@ module _ (f g h : ℕ → Bool) (l n : ℕ) (near : (i : ℕ) → i < l → f i 
       leading-is f n (leading g n) a (λ j q. near j (omega arith) ∙ leading_at g n j q)
       (λ q. near (leading g n) k ∙ leading_stops g n q))
       (λ e. let k = ltb-false (leading g n) l e in
-      both (λ (m : ℕ). m ≡ leading f n) _ _ _
-      (λ z. let q = ltb-true (l + leading h n) n z in
-      leading-is f n (l + leading h n) (omega arith) (λ j p. behind-at (leading h n) j k (omega arith) p)
-      (λ p. far (leading h n) ∙ leading_stops h n (omega arith)))
-      (λ z. let q = ltb-false (l + leading h n) n z in
-      leading-is f n n (omega arith) (λ j p. behind-at (leading h n) j k (omega arith) (omega arith)) (λ p. absurd (omega arith))))
+      leading-is f n (min (l + leading h n) n) (omega arith) (λ j p. behind-at (leading h n) j k (omega arith) (omega arith))
+      (λ p. let z : min (l + leading h n) n ≡ l + leading h n = omega arith in
+      ap f z ∙ far (leading h n) ∙ leading_stops h n (omega arith)))
 
 pub leading-every : (f : ℕ → Bool) (s n : ℕ) → s ≤ n → leb s (leading f n) ≡ every f s
 leading-every f s n h =
@@ -88,11 +86,7 @@ leading-every f s n h =
 pub filed-none : (end from n : ℕ) → end ≤ from → 0 ≡ leading (λ i. ltb (from + i) end) n
 filed-none end from n h = leading-none (λ i. ltb (from + i) end) n (le-ltb (from + 0) end (omega arith))
 
-pub filed-some : (end from n : ℕ) → from < end → pick (ltb (end - from) n) (end - from) n ≡ leading (λ i. ltb (from + i) end) n
+pub filed-some : (end from n : ℕ) → from < end → min (end - from) n ≡ leading (λ i. ltb (from + i) end) n
 filed-some end from n h =
-    both (λ (m : ℕ). m ≡ leading (λ i. ltb (from + i) end) n) _ _ _
-    (λ e. let k = ltb-true (end - from) n e in
-    leading-is (λ i. ltb (from + i) end) n (end - from) (omega arith) (λ j l. lt-ltb (from + j) end (omega arith))
-    (λ l. le-ltb (from + (end - from)) end (omega arith)))
-    (λ e. let k = ltb-false (end - from) n e in
-    leading-is (λ i. ltb (from + i) end) n n (omega arith) (λ j l. lt-ltb (from + j) end (omega arith)) (λ l. absurd (omega arith)))
+    leading-is (λ i. ltb (from + i) end) n (min (end - from) n) (omega arith) (λ j l. lt-ltb (from + j) end (omega arith))
+    (λ l. le-ltb (from + min (end - from) n) end (omega arith))

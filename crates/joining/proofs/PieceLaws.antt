@@ -4,29 +4,16 @@ use native.Mathlib.Omega.{arith}
 use mathlib.Core.Path.{◌≡◌, sym, ap, subst, ◌∙◌}
 use mathlib.Core.List.{List}
 use mathlib.Core.Bool.{true, false}
-use lib.Dec.{ltb}
-use borrow.Author.Tests.{le-leb, ltb-true, ltb-false}
-use Rattle.fields.specs.Choice.{pick}
-use Rattle.fields.proofs.FieldLaws.{both, pick_yes}
-use Rattle.records.specs.inner.Raw.{capped}
+use Rattle.std.specs.Prelude.{None, min}
 use Rattle.linking.specs.inner.Links.{first_extent, extents, offset_at, size_at, made_of_items, named_row, named_by, chained, length_sum}
-use Rattle.joining.specs.declared.Holder.{Holder}
-use Rattle.joining.specs.declared.Holder.TheVariants.{Nowhere}
 use Rattle.joining.specs.declared.Piece.{Piece}
 use Rattle.joining.specs.inner.Lies.{holder_from, place_of, PieceIs, Sourced}
 use Rattle.joining.proofs.PlaceLaws.{Holds, source_filed, source_made, named-row, named_none, holder_past}
 
--- the lesser of two
-pub lesser_low : (a b : ℕ) → (pick (ltb a b) a b ≤ a) × (pick (ltb a b) a b ≤ b) × (0 < a → 0 < b → 0 < pick (ltb a b) a b)
-lesser_low a b =
-    both (λ (m : ℕ). (m ≤ a) × (m ≤ b) × (0 < a → 0 < b → 0 < m)) _ _ _
-    (λ e. let l = ltb-true a b e in (omega arith, omega arith, λ p q. p))
-    (λ e. let l = ltb-false a b e in (omega arith, omega arith, λ p q. q))
-
 -- no byte of a row is nowhere
-pub piece_none : {A : Type 0} (t : List ℕ) (r p n : ℕ) (h : Holder) → h ≡ holder_from t (first_extent t r) (extents t r) p → h ≡ Nowhere → 0 < n →
+pub piece_none : {A : Type 0} (t : List ℕ) (r p n : ℕ) → None ≡ holder_from t (first_extent t r) (extents t r) p → 0 < n →
     p + n ≤ length_sum t r → A
-piece_none t r p n h a b q l = absurd (omega (arith, holder_past t (first_extent t r) (extents t r) p h a b))
+piece_none t r p n a q l = absurd (omega (arith, holder_past t (first_extent t r) (extents t r) p a))
 
 -- what is made of items has a link left
 pub piece_last : {A : Type 0} (t v : List ℕ) (r d : ℕ) → chained d t v r ≡ true → d ≡ 0 → made_of_items t r ≡ true → A
@@ -36,22 +23,20 @@ piece_last t v r d ch z a = absurd (named_none t v r a (subst (λ (i : ℕ). cha
 module _ (t v : List ℕ) (m r : ℕ) (w : Sourced t v m) (rl : r < m) where
   -- the source of a byte of an extent has 64 bits
   pub from_is : (j e rest from off : ℕ) → j < extents t r → e ≡ first_extent t r + j → rest ≤ size_at t e → off ≡ offset_at t e →
-      from ≡ capped (off + rest) → from ≡ offset_at t e + rest
+      from ≡ min (off + rest) 18446744073709551615 → from ≡ offset_at t e + rest
   from_is j e rest from off h z k o f =
       let a = ap (offset_at t) z in
       let b = ap (size_at t) z in
       let l = w.filed r j rl h in
-      f ∙ pick_yes (off + rest) 18446744073709551615 (le-leb (off + rest) 18446744073709551615 (omega arith)) ∙ ap (λ (i : ℕ). i + rest) o
+      omega arith
 
   module _ (d p n e rest size off here from : ℕ) (x : Holds t (first_extent t r) (extents t r) p e rest) (s : size ≡ size_at t e)
-      (o : off ≡ offset_at t e) (h : here ≡ pick (ltb n (size - rest)) n (size - rest)) (f : from ≡ capped (off + rest))
+      (o : off ≡ offset_at t e) (h : here ≡ min n (size - rest)) (f : from ≡ min (off + rest) 18446744073709551615)
       (ch : chained d t v r ≡ true) (some : 0 < n) where
     here-low : (0 < here) × (here ≤ n) × (here ≤ size_at t e - rest)
     here-low =
-        let l = lesser_low n (size - rest) in
         let k = x.inside in
-        let b = l.2 some (omega arith) in
-        (omega arith, omega (arith, l.0), omega (arith, l.1))
+        (omega arith, omega arith, omega arith)
 
     from-here : from ≡ offset_at t e + rest
     from-here = let k = x.inside in from_is x.j e rest from off x.below x.place (omega arith) o f

@@ -11,14 +11,14 @@ use mathlib.Core.List.{List}
 use mathlib.Core.Bool.{true, false, ◌&&◌}
 use mathlib.Core.Logic.{⊎_elim}
 use lib.Dec.{ltb}
+use Rattle.std.specs.Prelude.{Option, Some, None, IfSome}
 use borrow.Author.Tests.{lt-ltb, le-ltb, ltb-true, ltb-false, not-true}
 use Rattle.fields.specs.Choice.{pick}
 use Rattle.fields.proofs.FieldLaws.{both, pick_yes, pick_no}
 use Rattle.fields.proofs.TestLaws.{untrue, and_both}
 use Rattle.linking.specs.inner.Links.{first_extent, extents, offset_at, size_at, made_of_items, named_by, chained, level, sum_from, length_sum}
 use Rattle.linking.proofs.LinkLaws.{by_test, every-at, chain-on, level-chained, level-some, chained-level, chained-by}
-use Rattle.joining.specs.declared.Holder.{Holder}
-use Rattle.joining.specs.declared.Holder.TheVariants.{Extent, Nowhere}
+use Rattle.joining.specs.declared.Held.{Held}
 use Rattle.joining.specs.inner.Lies.{holder_from, nowhere, place_from, place_of, source_place}
 
 -- sum_from: the first extent apart
@@ -40,11 +40,11 @@ sum_within t e (suc n) j h =
 
 module _ (t : List ℕ) where
   -- holder_from
-  holder_none : (e p : ℕ) → holder_from t e 0 p ≡ Nowhere
+  holder_none : (e p : ℕ) → holder_from t e 0 p ≡ None
   unfolding holder_from
   holder_none e p = refl
 
-  holder_here : (e n p : ℕ) → p < size_at t e → holder_from t e (suc n) p ≡ Extent e p
+  holder_here : (e n p : ℕ) → p < size_at t e → holder_from t e (suc n) p ≡ Some (record { e = e; rest = p })
   unfolding holder_from
   holder_here e n p h = pick_yes _ _ (lt-ltb p (size_at t e) h)
 
@@ -60,16 +60,16 @@ module _ (t : List ℕ) where
     pub inside : rest < size_at t x
     pub sum : p ≡ sum_from t e j + rest
 
-  abbrev HeldAs : ℕ → ℕ → ℕ → Holder → Type 0
-  HeldAs e n p (Extent x rest) = Holds e n p x rest
-  HeldAs e n p Nowhere = sum_from t e n ≤ p
+  abbrev HeldAs : ℕ → ℕ → ℕ → Option Held → Type 0
+  HeldAs e n p (Some h) = Holds e n p h.e h.rest
+  HeldAs e n p None = sum_from t e n ≤ p
 
   holds_first : (e n p : ℕ) → p < size_at t e → Holds e (suc n) p e p
   unfolding sum_from
   holds_first e n p h = record { j = 0; below = omega arith; place = omega arith; inside = h; sum = omega arith }
 
-  held_more : (e n p : ℕ) (h : Holder) → size_at t e ≤ p → HeldAs (suc e) n (p - size_at t e) h → HeldAs e (suc n) p h
-  held_more e n p (Extent x rest) l w =
+  held_more : (e n p : ℕ) (h : Option Held) → size_at t e ≤ p → HeldAs (suc e) n (p - size_at t e) h → HeldAs e (suc n) p h
+  held_more e n p (Some h) l w =
       let z = w.sum in
       let y = w.place in
       record {
@@ -79,26 +79,31 @@ module _ (t : List ℕ) where
         inside = w.inside;
         sum = omega (arith, sum_first t e w.j);
       }
-  held_more e n p Nowhere l w = omega (arith, sum_first t e n)
+  held_more e n p None l w = omega (arith, sum_first t e n)
 
   held_as : (e n p : ℕ) → HeldAs e n p (holder_from t e n p)
   unfolding holder_from sum_from
   held_as e zero p = omega arith
   held_as e (suc n) p =
-      both (HeldAs e (suc n) p) (ltb p (size_at t e)) (Extent e p) (holder_from t (suc e) n (p - size_at t e))
+      both (HeldAs e (suc n) p) (ltb p (size_at t e)) (Some (record { e = e; rest = p })) (holder_from t (suc e) n (p - size_at t e))
       (λ q. holds_first e n p (ltb-true p (size_at t e) q))
       (λ q. held_more e n p (holder_from t (suc e) n (p - size_at t e)) (ltb-false p (size_at t e) q) (held_as (suc e) n (p - size_at t e)))
 
-  pub holder_at : (e n p x rest : ℕ) (h : Holder) → h ≡ holder_from t e n p → h ≡ Extent x rest → Holds e n p x rest
-  holder_at e n p x rest h a b = subst (HeldAs e n p) (sym a ∙ b) (held_as e n p)
+  pub holder_at : (e n p : ℕ) (x : Held) → Some x ≡ holder_from t e n p → Holds e n p x.e x.rest
+  holder_at e n p x a = subst (HeldAs e n p) (sym a) (held_as e n p)
 
-  pub holder_past : (e n p : ℕ) (h : Holder) → h ≡ holder_from t e n p → h ≡ Nowhere → sum_from t e n ≤ p
-  holder_past e n p h a b = subst (HeldAs e n p) (sym a ∙ b) (held_as e n p)
+  pub holder_inside : (e n p : ℕ) (h : Option Held) → h ≡ holder_from t e n p → e + n ≤ 512 →
+      IfSome h (λ (x : Held). (x.e < 512) × (x.rest < size_at t x.e))
+  holder_inside e n p None a l = tt
+  holder_inside e n p (Some x) a l = let w = holder_at e n p x a in (omega (arith, w.place, w.below), w.inside)
+
+  pub holder_past : (e n p : ℕ) → None ≡ holder_from t e n p → sum_from t e n ≤ p
+  holder_past e n p a = subst (HeldAs e n p) (sym a) (held_as e n p)
 
   -- each byte has its extent
-  some-held : (e n p : ℕ) (h : Holder) → p < sum_from t e n → HeldAs e n p h → (x : ℕ) × (rest : ℕ) × Holds e n p x rest
-  some-held e n p (Extent x rest) l w = (x, rest, w)
-  some-held e n p Nowhere l w = absurd (omega arith)
+  some-held : (e n p : ℕ) (h : Option Held) → p < sum_from t e n → HeldAs e n p h → (x : ℕ) × (rest : ℕ) × Holds e n p x rest
+  some-held e n p (Some h) l w = (h.e, h.rest, w)
+  some-held e n p None l w = absurd (omega arith)
 
   pub holds_some : (e n p : ℕ) → p < sum_from t e n → (x : ℕ) × (rest : ℕ) × Holds e n p x rest
   holds_some e n p l = some-held e n p (holder_from t e n p) l (held_as e n p)
@@ -211,7 +216,7 @@ module _ (t v : List ℕ) where
 
 -- the extents from e on, before an end
 module _ (t : List ℕ) (e end p size : ℕ) (h : size ≡ size_at t e) where
-  pub seek_here : e < end → p < size → Extent e p ≡ holder_from t e (end - e) p
+  pub seek_here : e < end → p < size → Some (record { e = e; rest = p }) ≡ holder_from t e (end - e) p
   seek_here l q =
       let z : suc (end - suc e) ≡ end - e = omega arith in
       sym (holder_here t e (end - suc e) p (omega arith)) ∙ ap (λ (n : ℕ). holder_from t e n p) z
@@ -224,21 +229,13 @@ module _ (t : List ℕ) (e end p size : ℕ) (h : size ≡ size_at t e) where
       ap (λ (n : ℕ). holder_from t e n p) z ∙ holder_behind t e (end - (e + 1)) p (omega arith)
       ∙ ap (λ (i : ℕ). holder_from t i (end - (e + 1)) (p - size_at t e)) y ∙ ap (λ (i : ℕ). holder_from t (e + 1) (end - (e + 1)) i) x
 
-pub seek_none : (t : List ℕ) (e end p : ℕ) → end ≤ e → Nowhere ≡ holder_from t e (end - e) p
+pub seek_none : (t : List ℕ) (e end p : ℕ) → end ≤ e → None ≡ holder_from t e (end - e) p
 seek_none t e end p h =
     let z : 0 ≡ end - e = omega arith in sym (holder_none t e p) ∙ ap (λ (n : ℕ). holder_from t e n p) z
 
 -- what was found of a row's extents, as they were read
-pub holder_read : (t : List ℕ) (r p f c : ℕ) (h : Holder) → f ≡ first_extent t r → c ≡ extents t r → h ≡ holder_from t f (f + c - f) p →
+pub holder_read : (t : List ℕ) (r p f c : ℕ) (h : Option Held) → f ≡ first_extent t r → c ≡ extents t r → h ≡ holder_from t f (f + c - f) p →
     h ≡ holder_from t (first_extent t r) (extents t r) p
 holder_read t r p f c h a b e =
     let z : f + c - f ≡ extents t r = omega arith in
     e ∙ ap (λ (n : ℕ). holder_from t f n p) z ∙ ap (λ (i : ℕ). holder_from t i (extents t r) p) a
-
--- nowhere is no extent
-abbrev IsNowhere : Holder → Type 0
-IsNowhere (Extent e p) = ⊥
-IsNowhere Nowhere = Unit {0}
-
-pub holder_nowhere : {A : Type 0} (e p : ℕ) → Nowhere ≡ Extent e p → A
-holder_nowhere e p q = absurd (subst IsNowhere q tt)

@@ -9,6 +9,7 @@ use mathlib.Core.Logic.{⊎_elim}
 use lib.ListN.{get_or, set, length}
 use lib.Seq.{get_or-set_same, get_or-set_other}
 use lib.Dec.{ltb}
+use Rattle.std.specs.Prelude.{min}
 use Rattle.fields.specs.Choice.{pick}
 use Rattle.linking.specs.inner.Links.{first_extent, extents, offset_at, size_at, chained, level, sum_from, LinksIn}
 use Rattle.linking.specs.inner.Bytes.{LinksAre}
@@ -60,7 +61,7 @@ module _ (t v : List ℕ) (end r f past : ℕ) (fe : r < 256 → f ≡ first_ext
         ((m k j : ℕ) → Sourced t v m → r < m → chained 8 t v r ≡ true → RunsTo k t v end m new → level t v r ≤ k → j < extents t r →
         e - 1 ≡ first_extent t r + j → 0 ≤ size_at t (e - 1) →
         here ≡ leading (λ i. ltb (source_place 8 t v r (e - 1) (offset_at t (e - 1) + (0 + i))) end) 16403) →
-        b ≡ pick (ltb here size) here (pick (ltb (size + behind) 16403) (size + behind) 16403) →
+        b ≡ pick (ltb here size) here (min (size + behind) 16403) →
         RowRuns t v end r f past (e - 1) b old (set new (e - 1) b)
     row_more here size b fl pl room long z run be =
         record {

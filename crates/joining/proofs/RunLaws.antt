@@ -9,10 +9,10 @@ use mathlib.Core.List.{List}
 use mathlib.Core.Bool.{Bool, true, false}
 use lib.ListN.{get_or}
 use lib.Dec.{ltb}
+use Rattle.std.specs.Prelude.{None, min}
 use borrow.Author.Tests.{le-ltb, ltb-true, ltb-false}
 use Rattle.fields.specs.Choice.{pick}
 use Rattle.fields.proofs.FieldLaws.{both, pick_yes, pick_no}
-use Rattle.records.specs.inner.Raw.{capped}
 use Rattle.linking.specs.inner.Links.{
   first_extent,
   extents,
@@ -25,8 +25,6 @@ use Rattle.linking.specs.inner.Links.{
   sum_from,
   length_sum,
 }
-use Rattle.joining.specs.declared.Holder.{Holder}
-use Rattle.joining.specs.declared.Holder.TheVariants.{Nowhere}
 use Rattle.joining.specs.inner.Lies.{holder_from, nowhere, place_of, source_place, leading, run_of, RunsIn, Sourced}
 use Rattle.joining.proofs.LeadingLaws.{leading-same, leading-none, leading-joined}
 use Rattle.joining.proofs.PlaceLaws.{
@@ -39,10 +37,9 @@ use Rattle.joining.proofs.PlaceLaws.{
 use Rattle.joining.proofs.PieceLaws.{from_is}
 
 -- a run is no longer than it is asked for
-pub joined-low : (here left behind n : ℕ) → here ≤ n → pick (ltb here left) here (pick (ltb (left + behind) n) (left + behind) n) ≤ n
+pub joined-low : (here left behind n : ℕ) → here ≤ n → pick (ltb here left) here (min (left + behind) n) ≤ n
 joined-low here left behind n h =
-    both (λ (m : ℕ). m ≤ n) _ _ _ (λ e. h)
-    (λ e. both (λ (m : ℕ). m ≤ n) _ _ _ (λ q. omega (arith, ltb-true (left + behind) n q)) (λ q. omega arith))
+    both (λ (m : ℕ). m ≤ n) _ _ _ (λ e. h) (λ e. omega arith)
 
 -- sum_from: one extent more
 sum_next : (t : List ℕ) (e j : ℕ) → sum_from t e (suc j) ≡ sum_from t e j + size_at t (e + j)
@@ -57,16 +54,15 @@ module _ (t v : List ℕ) (end : ℕ) where
       leading-none (λ i. ltb (place_of k t v r (p + i)) end) 16403
       (ap (λ (x : ℕ). ltb x end) (place-past t v k r (p + 0) z) ∙ le-ltb nowhere end b)
 
-  pub run_nowhere : (k r p : ℕ) (h : Holder) → end ≤ 18446744073709551616 → h ≡ holder_from t (first_extent t r) (extents t r) p → h ≡ Nowhere →
-      0 ≡ run_of k t v end r p
-  run_nowhere k r p h b a e = run_past k r p b (holder_past t (first_extent t r) (extents t r) p h a e)
+  pub run_nowhere : (k r p : ℕ) → end ≤ 18446744073709551616 → None ≡ holder_from t (first_extent t r) (extents t r) p → 0 ≡ run_of k t v end r p
+  run_nowhere k r p b a = run_past k r p b (holder_past t (first_extent t r) (extents t r) p a)
 
   -- over an extent from its byte `rest` on, and behind it
   pub run_joined : (r j e rest p here left behind : ℕ) → chained 8 t v r ≡ true → j < extents t r → e ≡ first_extent t r + j → rest ≤ size_at t e →
       p ≡ sum_from t (first_extent t r) j + rest →
       here ≡ leading (λ i. ltb (source_place 8 t v r e (offset_at t e + (rest + i))) end) 16403 → left ≡ size_at t e - rest →
       behind ≡ run_of 8 t v end r (sum_from t (first_extent t r) (suc j)) →
-      pick (ltb here left) here (pick (ltb (left + behind) 16403) (left + behind) 16403) ≡ run_of 8 t v end r p
+      pick (ltb here left) here (min (left + behind) 16403) ≡ run_of 8 t v end r p
   run_joined r j e rest p here left behind ch jl z inside s h l b =
       let f : ℕ → Bool = λ i. ltb (place_of 8 t v r (p + i)) end in
       let g : ℕ → Bool = λ i. ltb (source_place 8 t v r e (offset_at t e + (rest + i))) end in
@@ -97,7 +93,7 @@ module _ (t v : List ℕ) (end : ℕ) where
   module _ (m : ℕ) (w : Sourced t v m) where
     -- the source of an extent, from its byte `rest` on
     module _ (r j e rest from off x : ℕ) (rl : r < m) (jl : j < extents t r) (z : e ≡ first_extent t r + j) (inside : rest ≤ size_at t e)
-        (o : off ≡ offset_at t e) (f : from ≡ capped (off + rest)) where
+        (o : off ≡ offset_at t e) (f : from ≡ min (off + rest) 18446744073709551615) where
       pub run_filed : made_of_items t r ≡ false → x ≡ leading (λ i. ltb (from + i) end) 16403 →
           x ≡ leading (λ i. ltb (source_place 8 t v r e (offset_at t e + (rest + i))) end) 16403
       run_filed a h =

@@ -2,16 +2,15 @@
 // `rows` has from 2,304 on, extent by extent, the row that a method 2 extent names.
 #![tactic(auto)]
 
-ghost use Rattle.std.specs.Prelude.{◌≡◌, true, List, ℕ, ◌+◌, ◌-◌, ◌≤◌, ◌<◌, length, get_or, take, drop, ltb, leb};
+ghost use Rattle.std.specs.Prelude.{◌≡◌, true, List, ℕ, ◌+◌, ◌-◌, ◌≤◌, ◌<◌, length, get_or, take, drop, ltb, leb, min, IfSome};
 ghost use Rattle.std.proofs.lemmas.List.Edits.{sets};
 ghost use Rattle.fields.specs.Choice.{pick};
 ghost use Rattle.records.specs.inner.Raw.{capped};
 ghost use Rattle.linking.specs.inner.Links.{first_extent, extents, offset_at, size_at, made_of_items, chained, level, every, length_sum};
 ghost use Rattle.linking.specs.inner.Bytes.{LinksAre};
 ghost use Rattle.joining.specs.inner.Lies.{holder_from, place_of, PieceIs, leading, source_place, run_of, RunsIn, RunsTo, RunsAre, Sourced, bytes_of};
-ghost use Rattle.joining.specs.declared.Holder.TheVariants.{Extent};
+ghost use Rattle.joining.specs.declared.Held.{Held};
 
-use linking::Sum;
 use table::{ItemRow, Table};
 
 // How many links a chain may have.
@@ -21,14 +20,14 @@ const MOST_LINKS: u32 = 8;
 const MOST: u64 = 16403;
 
 // Of an item's extents the one that has a byte, and the byte's number in it.
-#[derive(Drop)]
-pub enum Holder {
-    Extent { e: usize, rest: u64 },
-    Nowhere,
+#[derive(Clone, Copy)]
+pub struct Held {
+    pub e: usize,
+    pub rest: u64,
 }
 
 // A stretch of the file.
-#[derive(Drop)]
+#[derive(Clone, Copy)]
 pub struct Piece {
     pub from: u64,
     pub size: u64,
@@ -43,58 +42,36 @@ pub fn length_of(table: &[u32], row: ItemRow) -> u64
     if table.len() < Table::WORDS {
         return 0;
     }
-    let s = linking::sum_of(table, row);
-    match s {
-        Sum::Past => 18446744073709551615,
-        Sum::Is(sum) => sum,
-    }
-}
-
-// a + b, or the largest 64-bit number where that is more.
-fn capped_sum(a: u64, b: u64) -> u64
-    ensures { result ≡ capped (a + b) }
-{
-    if 18446744073709551615 - a < b {
-        return 18446744073709551615;
-    }
-    a + b
-}
-
-fn lesser(a: u64, b: u64) -> u64
-    ensures { result ≡ pick (ltb a b) a b }
-{
-    if a < b { a } else { b }
+    linking::sum_of(table, row).unwrap_or(u64::MAX)
 }
 
 // Of the extents from one on, before an end, the one that has the byte p.
-fn seek(table: &[u32], first: usize, end: usize, p: u64) -> Holder
+fn seek(table: &[u32], first: usize, end: usize, p: u64) -> Option<Held>
     requires { (first ≤ end) × (end ≤ 512) × (11280 ≤ length table.now) }
     ensures { result ≡ holder_from table.now first (end - first) p }
 {
-    let mut e = first;
     let mut rest = p;
-    while e < end {
+    for e in first..end {
         let size = linking::size_at(table, e);
         if rest < size {
-            return Holder::Extent { e, rest };
+            return Some(Held { e, rest });
         }
         rest -= size;
-        e += 1;
     }
-    Holder::Nowhere
+    None
 }
 
 // The same of an item's extents.
-fn holder_of(table: &[u32], row: ItemRow, p: u64) -> Holder
+fn holder_of(table: &[u32], row: ItemRow, p: u64) -> Option<Held>
     requires { 11280 ≤ length table.now }
     ensures value { row.0 < 256 → first_extent table.now row.0 + extents table.now row.0 ≤ 512 →
         result ≡ holder_from table.now (first_extent table.now row.0) (extents table.now row.0) p }
-    ensures by_index { (e p : ℕ) → result ≡ Extent e p → (e < 512) × (p < size_at table.now e) }
+    ensures by_index { IfSome result (λ (h : Held). (h.e < 512) × (h.rest < size_at table.now h.e)) }
 {
     let first = views::held_word(table, row, 7) as usize;
     let end = first + (views::held_word(table, row, 8) as usize);
     if 512 < end {
-        return Holder::Nowhere;
+        return None;
     }
     seek(table, first, end, p)
 }
@@ -108,12 +85,11 @@ fn piece_at(table: &[u32], rows: &[u32], d: u32, row: ItemRow, p: u64, n: u64) -
         PieceIs (place_of d table.now rows.now row.0) p n result }
     ensures size_le_n { result.size ≤ n }
 {
-    let h = holder_of(table, row, p);
-    match h {
-        Holder::Nowhere => Piece { from: 0, size: 0 },
-        Holder::Extent { e, rest } => {
-            let here = lesser(n, linking::size_at(table, e) - rest);
-            let from = capped_sum(linking::offset_at(table, e), rest);
+    match holder_of(table, row, p) {
+        None => Piece { from: 0, size: 0 },
+        Some(Held { e, rest }) => {
+            let here = n.min(linking::size_at(table, e) - rest);
+            let from = linking::offset_at(table, e).saturating_add(rest);
             if views::held_word(table, row, 9) != 2 {
                 return Piece { from, size: here };
             }
@@ -139,18 +115,18 @@ fn filed_run(end: u64, from: u64) -> u64
     if end <= from {
         return 0;
     }
-    lesser(end - from, MOST)
+    (end - from).min(MOST)
 }
 
 // Of a stretch of so many bytes so many lie in the head without a gap, and so many behind it: how many in all, from its first one on.
 fn joined_run(here: u64, left: u64, behind: u64) -> u64
     requires { (here ≤ 16403) × (behind < 65536) }
-    ensures { result ≡ pick (ltb here left) here (pick (ltb (left + behind) 16403) (left + behind) 16403) }
+    ensures { result ≡ pick (ltb here left) here (min (left + behind) 16403) }
 {
     if here < left {
         return here;
     }
-    lesser(left + behind, MOST)
+    (left + behind).min(MOST)
 }
 
 // What stands for the extent e, nothing behind the last one of an item. What is no row may have any end, so the length is asked too.
@@ -186,10 +162,9 @@ fn run_at(
         result ≡ run_of 8 table.now rows.now end row.0 p }
     ensures upper_bound { result ≤ 16403 }
 {
-    let h = holder_of(table, row, p);
-    match h {
-        Holder::Nowhere => 0,
-        Holder::Extent { e, rest } => {
+    match holder_of(table, row, p) {
+        None => 0,
+        Some(Held { e, rest }) => {
             let left = linking::size_at(table, e) - rest;
             let here = run_in(end, table, rows, runs, d, row, e, rest);
             let past = (views::held_word(table, row, 7) as usize)
@@ -222,7 +197,7 @@ fn run_in(
         (offset_at table.now e + (rest + i))) end) 16403 }
     ensures upper_bound { result ≤ 16403 }
 {
-    let from = capped_sum(linking::offset_at(table, e), rest);
+    let from = linking::offset_at(table, e).saturating_add(rest);
     if views::held_word(table, row, 9) != 2 {
         return filed_run(end, from);
     }
@@ -257,9 +232,7 @@ fn put_row(end: u64, table: &[u32], rows: &[u32], runs: &mut [u16; 512], row: It
         return;
     }
     let mut behind: u64 = 0;
-    let mut e = past;
-    while first < e {
-        e -= 1;
+    for e in (first..past).rev() {
         let here = run_in(end, table, rows, &*runs, MOST_LINKS, row, e, 0);
         behind = joined_run(here, linking::size_at(table, e), behind);
         runs[e] = behind as u16;
@@ -283,12 +256,10 @@ fn put_level(
         RunsTo (level + 1) table.now rows.now end n runs.new }
     ensures runs_len { length runs.new ≡ 512 }
 {
-    let mut r: usize = 0;
-    while r < n {
+    for r in 0..n {
         if linking::level_in(links, ItemRow(r)) == level {
             put_row(end, table, rows, &mut *runs, ItemRow(r));
         }
-        r += 1;
     }
 }
 
@@ -299,16 +270,11 @@ pub fn runs_of(end: u64, table: &[u32], rows: &[u32], links: &[u8], n: usize) ->
         LinksAre table.now rows.now n links.now → RunsAre table.now rows.now end n result }
 {
     let mut runs = [0u16; 512];
-    if table.len() < Table::WORDS {
+    if table.len() < Table::WORDS || rows.len() < 2816 {
         return runs;
     }
-    if rows.len() < 2816 {
-        return runs;
-    }
-    let mut level: u8 = 0;
-    while level <= 8 {
+    for level in 0..9 {
         put_level(end, table, rows, &mut runs, links, n, level);
-        level += 1;
     }
     runs
 }
@@ -318,16 +284,11 @@ fn all_filed(end: u64, table: &[u32], first: usize, past: usize) -> bool
     requires { (first ≤ past) × (past ≤ 512) × (11280 ≤ length table.now) }
     ensures { result ≡ every (λ j. leb (offset_at table.now (first + j) + size_at table.now (first + j)) end) (past - first) }
 {
-    let mut e = first;
-    while e < past {
+    for e in first..past {
         let offset = linking::offset_at(table, e);
-        if end < offset {
+        if end < offset || end - offset < linking::size_at(table, e) {
             return false;
         }
-        if end - offset < linking::size_at(table, e) {
-            return false;
-        }
-        e += 1;
     }
     true
 }
@@ -359,11 +320,7 @@ fn copy_part(head: &[u8], from: usize, n: usize, out: &mut [u8], at: usize)
     requires { (from + n ≤ length head.now) × (at + n ≤ length out.old) }
     ensures { out.new ≡ sets out.old at (take n (drop from head.now)) }
 {
-    let mut i: usize = 0;
-    while i < n {
-        out[at + i] = head[from + i];
-        i += 1;
-    }
+    out[at..at + n].copy_from_slice(&head[from..from + n]);
 }
 
 // n bytes of an item from p on, which all lie in the head, to the front of `out`.
@@ -384,16 +341,11 @@ pub fn copy_bytes(
         place_of 8 table.now rows.now row.0 (p + i) < length head.now) →
         out.new ≡ sets out.old 0 (bytes_of table.now rows.now head.now row.0 p n) }
 {
-    if table.len() < Table::WORDS {
-        return;
-    }
-    if rows.len() < 2816 {
-        return;
-    }
-    if out.len() < n {
+    if table.len() < Table::WORDS || rows.len() < 2816 || out.len() < n {
         return;
     }
     let mut done: usize = 0;
+    // A while: each turn goes on by as many bytes as lie in one piece.
     while done < n {
         let q = piece_at(
             table,
@@ -405,13 +357,7 @@ pub fn copy_bytes(
         );
         let size = q.size as usize;
         let from = q.from;
-        if size == 0 {
-            return;
-        }
-        if head.len() as u64 <= from {
-            return;
-        }
-        if head.len() as u64 - from < q.size {
+        if size == 0 || head.len() as u64 <= from || head.len() as u64 - from < q.size {
             return;
         }
         copy_part(head, from as usize, size, &mut *out, done);

@@ -7,7 +7,12 @@ use mathlib.Core.List.{List, [], ◌∷◌}
 use mathlib.Core.Bool.{false}
 use mathlib.Core.Logic.{⊎_elim}
 use lib.ListN.{length, get_or}
+use Rattle.std.specs.Prelude.{Result, Ok, Err, IsErrAnd}
+use Rattle.std.proofs.lemmas.Result.{err_from_is_err_and}
 use Rattle.boxes.specs.Answer.{Answer, ok, refuse, ◌>>◌}
+use Rattle.boxes.specs.Told.{told}
+use Rattle.boxes.proofs.ToldLaws.{told-ok}
+use Rattle.boxes.proofs.AnswerLaws.{ok-then}
 use Rattle.boxes.specs.declared.Refusal.{Refusal}
 use Rattle.contents.specs.Iinf.{Item}
 use Rattle.contents.specs.File.{File}
@@ -23,31 +28,27 @@ use Rattle.depths.specs.inner.Inputs.{InputsAre}
 use Rattle.sizing.specs.inner.Drawn.{Drawn}
 use Rattle.judging.specs.inner.Order.{rule_by, places_judged, pictures_judged, NoneDeeper, told_judged}
 use Rattle.judging.specs.declared.Rule.TheVariants.{Derived, Itself, Deep}
-use Rattle.judging.specs.declared.Judged.TheVariants.{Good, Refused}
 use Rattle.judging.proofs.SceneLaws.{scene_long, inputs_are, shallow_itself, itself_kept, deep_kept, deep_word}
 
 -- told_judged: the first of two rules refuses, or the second decides
+pub told-good : (m : Answer (Unit {0})) → told_judged m ≡ Ok tt → m ≡ ok tt
+told-good m e = (told-ok _ m tt e).1
+
 module _ (m k : Answer (Unit {0})) where
-  pub told_off : (x : Refusal) → told_judged m ≡ Refused x → Refused x ≡ told_judged (m >> k)
-  unfolding told_judged ◌>>◌
+  pub told_off : (x : Refusal) → told_judged m ≡ Err x → Err x ≡ told_judged (m >> k)
+  unfolding told ◌>>◌
   told_off x = by m
     where
-      by : (m : Answer (Unit {0})) → told_judged m ≡ Refused x → Refused x ≡ told_judged (m >> k)
-      by (ok u) e = let z : ◌≡◌ {A = ℕ} 0 1 = cc in absurd (omega arith)
+      by : (m : Answer (Unit {0})) → told_judged m ≡ Err x → Err x ≡ told_judged (m >> k)
+      by (ok u) e = cc
       by (refuse n p) e = sym e
 
-  pub told-on : told_judged m ≡ Good → (m >> k) ≡ k
-  unfolding told_judged ◌>>◌
-  told-on = by m
-    where
-      by : (m : Answer (Unit {0})) → told_judged m ≡ Good → (m >> k) ≡ k
-      by (ok u) e = refl
-      by (refuse n p) e = let z : ◌≡◌ {A = ℕ} 0 1 = cc in absurd (omega arith)
+  pub told-on : told_judged m ≡ Ok tt → (m >> k) ≡ k
+  told-on e = ok-then m k tt (told-good m e)
 
-pub told-good : (m : Answer (Unit {0})) → told_judged m ≡ Good → m ≡ ok tt
-unfolding told_judged
-told-good (ok tt) e = refl
-told-good (refuse n p) e = let z : ◌≡◌ {A = ℕ} 0 1 = cc in absurd (omega arith)
+-- what `?` hands on: y is the refusal r
+pub handed : (y : Result (Unit {0}) Refusal) (r : Refusal) → IsErrAnd y (λ f. f ≡ r) → y ≡ Err r
+handed y r h = let p = err_from_is_err_and y h in p.1 ∙ ap Err p.2
 
 -- in_order: a rule that every item keeps refuses nothing
 kept_order : (rule : ℕ → Item → Answer (Unit {0})) (r : ℕ) (items : List Item) →
@@ -98,8 +99,8 @@ module _ (total : ℕ) (head : List ℕ) (f : File) where
 
   pub itself_grounded : {t rows : List ℕ} → Drawn t rows head total f → (n : ℕ) → n ≡ get_or t 0 0
       → ((s : Scene) → length s ≡ n → InputsAre t rows s → (r : ℕ) → r < n → derives_itself s r ≡ false) →
-      Good ≡ told_judged (in_order (rule_by Itself total head f) 0 f.items)
-  unfolding told_judged
+      Ok tt ≡ told_judged (in_order (rule_by Itself total head f) 0 f.items)
+  unfolding told
   itself_grounded {t} {rows} v n e h =
       let i = inputs_are total head f t rows (places_in total head) v.followed.view v.resolved v.fed in
       ap told_judged (sym (itself_all (λ r m. h (scene_of total head f)

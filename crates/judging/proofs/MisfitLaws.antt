@@ -13,7 +13,9 @@ use lib.Dec.{eqb}
 use borrow.Author.Tests.{eq-eqb, eqb-true, not-true}
 use Rattle.fields.proofs.FieldLaws.{pick_yes, both}
 use Rattle.fields.proofs.TestLaws.{and_both, both-and}
+use Rattle.std.specs.Prelude.{Ok, Err}
 use Rattle.boxes.specs.Answer.{Answer, ok, refuse, check, ◌>>◌}
+use Rattle.boxes.specs.Told.{told}
 use Rattle.boxes.specs.Types.{image}
 use Rattle.contents.specs.File.{File}
 use Rattle.pictures.specs.Scene.{Scene, picture_at, good_sizes}
@@ -21,7 +23,6 @@ use Rattle.pictures.specs.Depth.{depth}
 use Rattle.rules.specs.Joined.{item_at}
 use Rattle.rules.specs.Rules.{in_order, rule20, by_depth}
 use Rattle.judging.specs.inner.Order.{told_judged}
-use Rattle.judging.specs.declared.Judged.TheVariants.{Good, Refused}
 use Rattle.judging.proofs.JudgedLaws.{kept-all, refused-at}
 
 module _ (s : Scene) (f : File) where
@@ -119,8 +120,8 @@ module _ (s : Scene) (f : File) where
 
     -- all rows passed
     module _ (all : k ≡ length f.items) where
-      pub least-none : 17 ≤ d → Good ≡ told_judged (by_depth s f.items 17 0)
-      unfolding told_judged
+      pub least-none : 17 ≤ d → Ok tt ≡ told_judged (by_depth s f.items 17 0)
+      unfolding told
       least-none e = ap told_judged (sym (none_within s f 17 0 (λ r l m. omega (arith, w.none r (omega arith) m))))
 
       -- there is one
@@ -128,8 +129,8 @@ module _ (s : Scene) (f : File) where
         pub least-row : b < length f.items
         least-row = omega (arith, (w.found h).0)
 
-        pub least-named : (id : ℕ) → id ≡ (item_at f b).id → Refused (record { number = 20; place = id }) ≡ told_judged (by_depth s f.items 17 0)
-        unfolding told_judged
+        pub least-named : (id : ℕ) → id ≡ (item_at f b).id → Err (record { number = 20; place = id }) ≡ told_judged (by_depth s f.items 17 0)
+        unfolding told
         least-named id i =
             let v = w.found h in
             rw i (sym (ap told_judged (one-within s f d b least-row v.1 v.2 (λ r l m. w.none r (omega arith) m)

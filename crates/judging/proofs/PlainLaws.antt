@@ -8,9 +8,11 @@ use mathlib.Core.Bool.{true}
 use mathlib.Core.Logic.{◌⊎◌, inl, inr, ⊎_elim}
 use lib.ListN.{length}
 use Rattle.fields.proofs.FieldLaws.{pick_yes}
+use Rattle.std.specs.Prelude.{Ok, Err}
 use Rattle.boxes.specs.Answer.{Answer, ok, refuse, ◌>>◌}
+use Rattle.boxes.proofs.ToldLaws.{told-refused}
 use Rattle.boxes.specs.declared.Refusal.{Refusal}
-use Rattle.boxes.proofs.AnswerLaws.{not-refused}
+use Rattle.boxes.proofs.AnswerLaws.{not-refused, refuse-same}
 use Rattle.contents.specs.Iinf.{Item}
 use Rattle.contents.specs.File.{File}
 use Rattle.rules.specs.Bytes.{made_of_items}
@@ -25,8 +27,6 @@ use Rattle.placed.specs.inner.Plain.{plain_rule}
 use Rattle.placed.proofs.PlaceLaws.{plain-same}
 use Rattle.judging.specs.inner.Order.{rule_by, places_judged, told_judged}
 use Rattle.judging.specs.declared.Rule.TheVariants.{Placed}
-use Rattle.judging.specs.declared.Judged.{Judged}
-use Rattle.judging.specs.declared.Judged.TheVariants.{Good, Refused}
 use Rattle.judging.proofs.JudgedLaws.{told-good, each-kept}
 
 module _ (total : ℕ) (head : List ℕ) (f : File) where
@@ -58,21 +58,16 @@ module _ (total : ℕ) (head : List ℕ) (f : File) where
       after (ok u) p x e = inl (p, x)
       after (refuse n q) p x e = inr (ap (λ (b : Answer (Unit {0})). b >> place_order (suc r) is) e)
 
-  pub plain-good : told_judged (plain_order 0 f.items) ≡ Good → told_judged (places_judged total head f) ≡ Good
+  pub plain-good : told_judged (plain_order 0 f.items) ≡ Ok tt → told_judged (places_judged total head f) ≡ Ok tt
   plain-good e =
       ⊎_elim (λ x. not-refused tt 30 x.0 (sym (told-good _ e) ∙ x.1)) (λ x. ap told_judged (sym x) ∙ e) (order_same 0 f.items)
 
-  pub plain_off : (y : Refusal) → told_judged (plain_order 0 f.items) ≡ Refused y → (y.number ≡ 30 → ⊥) →
-      told_judged (places_judged total head f) ≡ Refused y
-  unfolding told_judged
+  pub plain_off : (y : Refusal) → told_judged (plain_order 0 f.items) ≡ Err y → (y.number ≡ 30 → ⊥) →
+      told_judged (places_judged total head f) ≡ Err y
   plain_off y e n =
-      ⊎_elim (λ x. absurd (n (sym (ap number (sym (ap told_judged x.1) ∙ e))))) (λ x. ap told_judged (sym x) ∙ e) (order_same 0 f.items)
-    where
-      number : Judged → ℕ
-      number Good = 0
-      number (Refused y) = y.number
+      ⊎_elim (λ x. absurd (n (refuse-same _ _ _ _ (sym x.1 ∙ told-refused _ _ y e)).0)) (λ x. ap told_judged (sym x) ∙ e) (order_same 0 f.items)
 
-  pub plain_unmade : told_judged (plain_order 0 f.items) ≡ Good → {t : List ℕ} {pl : Places} → TableOf t head pl f →
+  pub plain_unmade : told_judged (plain_order 0 f.items) ≡ Ok tt → {t : List ℕ} {pl : Places} → TableOf t head pl f →
       (r : ℕ) → r < length f.items → Links.made_of_items t r ≡ true → ⊥
   unfolding rule_by
   plain_unmade e v r h m =

@@ -6,6 +6,7 @@ use mathlib.Core.List.{List, [], ◌∷◌, map}
 use mathlib.Core.Bool.{Bool, true, false, ◌||◌}
 use lib.ListN.{length, get_or, length-map}
 use borrow.Author.Tests.{le-leb, lt-leb}
+use Rattle.std.specs.Prelude.{Option, Some, None}
 use Rattle.fields.specs.Lists.{All, member}
 use Rattle.fields.proofs.FieldLaws.{pick_no}
 use Rattle.fields.proofs.TestLaws.{untrue}
@@ -36,9 +37,9 @@ all_map P g [] h = tt
 all_map P g (x ∷ l) h = (h 0 (omega arith), all_map P g l (λ j k. h (suc j) (omega arith)))
 
 -- the number that a test gives
-abbrev pub fault_by : Bool → ℕ → ℕ
-fault_by true n = n
-fault_by false n = 0
+abbrev pub fault_by : Bool → ℕ → Option ℕ
+fault_by true n = Some n
+fault_by false n = None
 
 -- image
 not-derived : (k : ℕ) → image k ≡ false → derived k ≡ false
@@ -131,7 +132,7 @@ module _ (total : ℕ) (head : List ℕ) (f : File) where
     pub deep_word : (w : ℕ) → w ≡ record_word t r 14 → w ≡ depth s r
     deep_word w e = e ∙ d.sizes.depths r (rw scene_long h)
 
-    pub itself_shallow : (w : ℕ) → w ≡ record_word t r 14 → w ≤ 16 → 0 ≡ fault_of (rule18 s r (item_at f r))
+    pub itself_shallow : (w : ℕ) → w ≡ record_word t r 14 → w ≤ 16 → None ≡ fault_of (rule18 s r (item_at f r))
     unfolding fault_of
     itself_shallow w e l = ap fault_of (sym (itself_kept r (item_at f r) (shallow_itself r (omega (arith, deep_word w e)))))
 
@@ -140,10 +141,10 @@ module _ (total : ℕ) (head : List ℕ) (f : File) where
     itself_told true e = rw (← e)
     itself_told false e = rw (← e)
 
-    pub deep_shallow : (w : ℕ) → w ≡ record_word t r 14 → w ≤ 16 → 0 ≡ fault_of (rule19 s r (item_at f r))
+    pub deep_shallow : (w : ℕ) → w ≡ record_word t r 14 → w ≤ 16 → None ≡ fault_of (rule19 s r (item_at f r))
     unfolding fault_of
     deep_shallow w e l = ap fault_of (sym (deep_kept r (item_at f r) (omega (arith, deep_word w e))))
 
-    pub deep_over : (w : ℕ) → w ≡ record_word t r 14 → 16 < w → 19 ≡ fault_of (rule19 s r (item_at f r))
+    pub deep_over : (w : ℕ) → w ≡ record_word t r 14 → 16 < w → Some 19 ≡ fault_of (rule19 s r (item_at f r))
     unfolding rule19 check fault_of
     deep_over w e l = rw (lt-leb (depth s r) 16 (omega (arith, deep_word w e)))

@@ -2,7 +2,6 @@
 #![tactic(auto)]
 
 ghost use Rattle.std.specs.Prelude.{◌≡◌, List, ◌&&◌, not, ℕ, ◌≤◌, ◌<◌, length, drop};
-ghost use Rattle.contents.specs.Iinf.{Item};
 ghost use Rattle.contents.specs.File.{File};
 ghost use Rattle.rules.specs.Joined.{item_at};
 ghost use Rattle.rules.specs.Derivations.{scene_of};
@@ -20,14 +19,7 @@ ghost use Rattle.judging.specs.inner.Order.{Read, RestBy, PlacesBy, JudgedBy};
 
 use boxes::Refusal;
 use placed::Ends;
-use sizing::Filled;
 use table::{ItemRow, Table};
-
-#[derive(Drop)]
-pub enum Judged {
-    Good,
-    Refused(Refusal),
-}
 
 // A rule that is asked of each item in table order.
 #[derive(Clone, Copy)]
@@ -41,33 +33,33 @@ pub enum Rule {
 }
 
 // 18 for the item in a row. No picture that is at most 16 deep is derived from itself.
-fn itself_fault(table: &[u32], rows: &[u32], row: ItemRow) -> u32
+fn itself_fault(table: &[u32], rows: &[u32], row: ItemRow) -> Option<u32>
     ensures { (total : ℕ) (head : List ℕ) (f : File) →
         Drawn table.now rows.now head total f → row.0 < length f.items →
         result ≡ fault_of (rule18 (scene_of total head f) row.0 (item_at f row.0)) }
 {
     if views::record_word(table, row, 14) <= 16 {
-        return 0;
+        return None;
     }
     let n = views::item_count(table);
     if 256 < n {
-        return 0;
+        return None;
     }
     if marks::derives_itself(table, rows, n, row) {
-        return 18;
+        return Some(18);
     }
-    0
+    None
 }
 
 // 19 for the item in a row.
-fn deep_fault(table: &[u32], row: ItemRow) -> u32
+fn deep_fault(table: &[u32], row: ItemRow) -> Option<u32>
     ensures { (total : ℕ) (head rows : List ℕ) (f : File) → Drawn table.now rows head total f →
         row.0 < length f.items → result ≡ fault_of (rule19 (scene_of total head f) row.0 (item_at f row.0)) }
 {
     if 16 < views::record_word(table, row, 14) {
-        return 19;
+        return Some(19);
     }
-    0
+    None
 }
 
 // Whether 20 refuses the item in a row: it is a picture, and its sizes are wrong.
@@ -78,13 +70,10 @@ fn is_misfit(head: &[u8], table: &[u32], rows: &[u32], row: ItemRow) -> bool
         not (good_sizes (scene_of total head.now f)
         (picture_at (scene_of total head.now f) row.0))) }
 {
-    if !views::is_image(views::type_of(table, row)) {
-        return false;
-    }
-    !sizing::good_sizes(head, table, rows, row)
+    views::is_image(views::type_of(table, row)) && !sizing::good_sizes(head, table, rows, row)
 }
 
-// The number that a rule refuses the item in a row by, 0 where it does not.
+// The number that a rule refuses the item in a row by, if it does.
 fn fault_of(
     head: &[u8],
     ends: Ends,
@@ -93,7 +82,7 @@ fn fault_of(
     runs: &[u16; 512],
     rule: Rule,
     row: ItemRow,
-) -> u32
+) -> Option<u32>
     ensures { (f : File) →
         Ready rule table.now rows.now runs.now head.now ends.total ends.idat f →
         row.0 < length f.items → result ≡ fault_of
@@ -116,31 +105,28 @@ fn first_fault(
     rows: &[u32],
     runs: &[u16; 512],
     rule: Rule,
-) -> Judged
+) -> Result<(), Refusal>
     ensures { (f : File) →
         Ready rule table.now rows.now runs.now head.now ends.total ends.idat f →
         result ≡ told_judged (in_order (rule_by rule ends.total head.now f) 0 f.items) }
 {
     if table.len() < Table::WORDS {
-        return Judged::Good;
+        return Ok(());
     }
     let n = views::item_count(table);
     if 256 < n {
-        return Judged::Good;
+        return Ok(());
     }
-    let mut k: usize = 0;
-    while k < n {
+    for k in 0..n {
         let row = views::row_at(table, k);
-        let number = fault_of(head, ends, table, rows, runs, rule, row);
-        if number != 0 {
-            return Judged::Refused(Refusal {
+        if let Some(number) = fault_of(head, ends, table, rows, runs, rule, row) {
+            return Err(Refusal {
                 number,
                 place: views::id_of(table, row).0 as u64,
             });
         }
-        k += 1;
     }
-    Judged::Good
+    Ok(())
 }
 
 // The largest depth that the table has.
@@ -149,69 +135,70 @@ fn deepest_of(table: &[u32]) -> u32
 {
     let n = views::item_count(table);
     let mut deepest: u32 = 0;
-    let mut r: usize = 0;
-    while r < n {
-        let d = views::record_word(table, ItemRow(r), 14);
-        if deepest < d {
-            deepest = d;
-        }
-        r += 1;
+    for r in 0..n {
+        deepest = deepest.max(views::record_word(table, ItemRow(r), 14));
     }
     deepest
 }
 
 // 20, by rising depth: of the pictures that break it, the first one of the least depth. No table of a file is shorter or has more items, as above.
-fn judge_sizes(head: &[u8], table: &[u32], rows: &[u32]) -> Judged
+fn judge_sizes(head: &[u8], table: &[u32], rows: &[u32]) -> Result<(), Refusal>
     ensures { (total : ℕ) (f : File) →
         Drawn table.now rows.now head.now total f →
         result ≡ told_judged (by_depth (scene_of total head.now f) f.items 17 0) }
 {
     if table.len() < Table::WORDS {
-        return Judged::Good;
+        return Ok(());
     }
     let n = views::item_count(table);
     if 256 < n {
-        return Judged::Good;
+        return Ok(());
     }
     // The depth and the row of the one to name; 17 while there is none.
     let mut depth: u32 = 17;
     let mut named: usize = 0;
-    let mut k: usize = 0;
-    while k < n {
+    for k in 0..n {
         let d = views::record_word(table, ItemRow(k), 14);
-        if d < depth {
-            if is_misfit(head, table, rows, ItemRow(k)) {
-                depth = d;
-                named = k;
-            }
+        if d < depth && is_misfit(head, table, rows, ItemRow(k)) {
+            depth = d;
+            named = k;
         }
-        k += 1;
     }
     if depth == 17 {
-        return Judged::Good;
+        return Ok(());
     }
-    Judged::Refused(Refusal {
+    Err(Refusal {
         number: 20,
         place: views::id_of(table, ItemRow(named)).0 as u64,
     })
 }
 
 // 18 for every item. Where all rest on pictures without inputs no item is asked.
-fn judge_itself(head: &[u8], ends: Ends, table: &[u32], rows: &[u32], runs: &[u16; 512]) -> Judged
+fn judge_itself(
+    head: &[u8],
+    ends: Ends,
+    table: &[u32],
+    rows: &[u32],
+    runs: &[u16; 512],
+) -> Result<(), Refusal>
     ensures { (f : File) → Drawn table.now rows.now head.now ends.total f →
         result ≡ told_judged (in_order (rule_by Rule.Itself ends.total head.now f) 0 f.items) }
 {
     let n = views::item_count(table);
-    if n <= 256 {
-        if marks::all_grounded(table, rows, n) {
-            return Judged::Good;
-        }
+    if n <= 256 && marks::all_grounded(table, rows, n) {
+        return Ok(());
     }
     first_fault(head, ends, table, rows, runs, Rule::Itself)
 }
 
 // 18 to 20, on the table with sizes and depths. Where nothing lies over 16 deep, 18 and 19 refuse nothing.
-fn judge_pictures(head: &[u8], ends: Ends, table: &[u32], rows: &[u32], runs: &[u16; 512]) -> Judged
+fn judge_pictures(
+    head: &[u8],
+    ends: Ends,
+    table: &[u32],
+    rows: &[u32],
+    runs: &[u16; 512],
+) -> Result<(), Refusal>
     ensures { (f : File) → Drawn table.now rows.now head.now ends.total f →
         result ≡ told_judged (pictures_judged ends.total head.now f) }
 {
@@ -219,17 +206,9 @@ fn judge_pictures(head: &[u8], ends: Ends, table: &[u32], rows: &[u32], runs: &[
     if deepest <= 16 {
         return judge_sizes(head, table, rows);
     }
-    let i = judge_itself(head, ends, table, rows, runs);
-    match i {
-        Judged::Refused(f) => Judged::Refused(f),
-        Judged::Good => {
-            let d = first_fault(head, ends, table, rows, runs, Rule::Deep);
-            match d {
-                Judged::Refused(f) => Judged::Refused(f),
-                Judged::Good => judge_sizes(head, table, rows),
-            }
-        }
-    }
+    judge_itself(head, ends, table, rows, runs)?;
+    first_fault(head, ends, table, rows, runs, Rule::Deep)?;
+    judge_sizes(head, table, rows)
 }
 
 // 15 to 20, for a file that keeps 12 to 14. 15, 29 and 16 are judged where sizes and depths are filled in, and depths
@@ -241,7 +220,7 @@ fn judge_placed(
     table: &mut [u32],
     rows: &[u32],
     runs: &[u16; 512],
-) -> Judged
+) -> Result<(), Refusal>
     requires { (f : File) × (x : List ℕ) × Read table.old head.now ends.total ends.idat f x }
     ensures rest_by { (f : File) (x : List ℕ) →
         Read table.old head.now ends.total ends.idat f x →
@@ -255,48 +234,42 @@ fn judge_placed(
     let n = views::item_count(&*table);
     let depths = depths::depths_of(&*table, rows, n);
     match d {
-        Judged::Refused(f) => {
-            let s = sizing::fill_sizes(head, table, &depths);
-            match s {
-                Filled::Refused(g) => Judged::Refused(g),
-                Filled::All => Judged::Refused(f),
-            }
-        }
-        Judged::Good => {
-            let s = sizing::fill_sizes(head, table, &depths);
-            match s {
-                Filled::Refused(f) => Judged::Refused(f),
-                Filled::All => judge_pictures(head, ends, &*table, rows, runs),
-            }
+        Err(f) => sizing::fill_sizes(head, table, &depths).and(Err(f)),
+        Ok(()) => {
+            sizing::fill_sizes(head, table, &depths)?;
+            judge_pictures(head, ends, &*table, rows, runs)
         }
     }
 }
 
 // The first item in table order that 13, 30 or 14 refuses, by the levels of all rows.
-fn first_unplaced(ends: Ends, table: &[u32], rows: &[u32], links: &[u8; 256], n: usize) -> Judged
+fn first_unplaced(
+    ends: Ends,
+    table: &[u32],
+    rows: &[u32],
+    links: &[u8; 256],
+    n: usize,
+) -> Result<(), Refusal>
     requires { (n ≤ 256) × (11280 ≤ length table.now) }
     ensures { (head : List ℕ) (f : File) → Early table.now head ends.total ends.idat f →
         NamedIn f rows.now → LinksAre table.now rows.now n links.now →
         n ≡ length f.items → result ≡ told_judged (places_judged ends.total head f) }
 {
     let sums = linking::sums_of(table, n);
-    let mut k: usize = 0;
-    while k < n {
-        let number = placed::linked_fault(table, rows, links, &sums, ItemRow(k), ends);
-        if number != 0 {
-            return Judged::Refused(Refusal {
+    for k in 0..n {
+        if let Some(number) = placed::linked_fault(table, rows, links, &sums, ItemRow(k), ends) {
+            return Err(Refusal {
                 number,
                 place: views::id_of(table, ItemRow(k)).0 as u64,
             });
         }
-        k += 1;
     }
-    Judged::Good
+    Ok(())
 }
 
 // 13 to 20 of a file in which some item is made of others: all items are asked again, with their levels, and where each item's
 // bytes lie is looked for from the bottom up, for 17.
-fn judge_linked(head: &[u8], ends: Ends, table: &mut [u32], rows: &[u32]) -> Judged
+fn judge_linked(head: &[u8], ends: Ends, table: &mut [u32], rows: &[u32]) -> Result<(), Refusal>
     requires { ((f : File) × (x : List ℕ) × Read table.old head.now ends.total ends.idat f x) ×
         (2816 ≤ length rows.now) }
     ensures places_by { (f : File) (x : List ℕ) →
@@ -306,25 +279,20 @@ fn judge_linked(head: &[u8], ends: Ends, table: &mut [u32], rows: &[u32]) -> Jud
     ensures table_unchanged { drop 11280 table.new ≡ drop 11280 table.old }
 {
     if table.len() < Table::WORDS {
-        return Judged::Good;
+        return Ok(());
     }
     let n = views::item_count(&*table);
     if 256 < n {
-        return Judged::Good;
+        return Ok(());
     }
     let links = linking::links_of(&*table, rows, n);
-    let p = first_unplaced(ends, &*table, rows, &links, n);
-    match p {
-        Judged::Refused(f) => Judged::Refused(f),
-        Judged::Good => {
-            let runs = joining::runs_of(head.len() as u64, &*table, rows, &links, n);
-            judge_placed(head, ends, table, rows, &runs)
-        }
-    }
+    first_unplaced(ends, &*table, rows, &links, n)?;
+    let runs = joining::runs_of(head.len() as u64, &*table, rows, &links, n);
+    judge_placed(head, ends, table, rows, &runs)
 }
 
 // The table of a file that was read becomes that of the accepted file, or the first fault of 12 to 20 and 29 is given.
-pub fn judge(head: &[u8], ends: Ends, table: &mut [u32], rows: &[u32]) -> Judged
+pub fn judge(head: &[u8], ends: Ends, table: &mut [u32], rows: &[u32]) -> Result<(), Refusal>
     requires { ((f : File) × (x : List ℕ) × Read table.old head.now ends.total ends.idat f x) ×
         TargetsRowed table.old rows.now × (2816 ≤ length rows.now) }
     ensures judged_by { (f : File) (x : List ℕ) →
@@ -333,21 +301,20 @@ pub fn judge(head: &[u8], ends: Ends, table: &mut [u32], rows: &[u32]) -> Judged
     ensures table_unchanged { drop 11280 table.new ≡ drop 11280 table.old }
 {
     if !placed::good_primary(&*table) {
-        return Judged::Refused(Refusal {
+        return Err(Refusal {
             number: 12,
             place: table::word(&*table, 5) as u64,
         });
     }
     // Where no item is made of others nothing is asked of the runs.
     let none = [0u16; 512];
-    let p = first_fault(head, ends, &*table, rows, &none, Rule::Placed);
-    match p {
-        Judged::Good => judge_placed(head, ends, table, rows, &none),
-        Judged::Refused(f) => {
+    match first_fault(head, ends, &*table, rows, &none, Rule::Placed) {
+        Ok(()) => judge_placed(head, ends, table, rows, &none),
+        Err(f) => {
             if f.number == 30 {
                 return judge_linked(head, ends, table, rows);
             }
-            Judged::Refused(f)
+            Err(f)
         }
     }
 }

@@ -7,6 +7,6 @@ mod part;
 mod pose;
 
 pub use margins::{Margins, margins_after, uncut};
-pub use number::{ZERO, fewer, least, less, most};
+pub use number::ZERO;
 pub use part::{Part, across_of, down_of, whole};
 pub use pose::{Pose, composed, pose_of, upright};

@@ -30,14 +30,14 @@ fn margins_of(left: u32, top: u32, right: u32, bottom: u32) -> Margins
 fn wider(margin: u32, more: u32) -> u32
     ensures { margin + more ≤ 65535 → result ≡ margin + more }
 {
-    std::num::wrapping_add_u32(margin, more)
+    margin.wrapping_add(more)
 }
 
 // What of a side lies behind a part of it.
 fn behind(side: u32, from: u32, part: u32) -> u32
     ensures { from + part ≤ side → result ≡ side - (from + part) }
 {
-    std::num::wrapping_sub_u32(std::num::wrapping_sub_u32(side, from), part)
+    side.wrapping_sub(from).wrapping_sub(part)
 }
 
 // A picture of size s before what lies in its margins was cut away.

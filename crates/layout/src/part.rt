@@ -2,7 +2,6 @@
 ghost use Rattle.std.specs.Prelude.{◌≡◌, ◌+◌, ◌-◌, ◌%◌, ◌≤◌, ◌==◌};
 ghost use Rattle.layout.specs.inner.Part.{whole_of, across_of, down_of};
 
-use crate::number::fewer;
 use crate::pose::Pose;
 use pictures::Size;
 
@@ -22,8 +21,8 @@ pub fn whole(s: Size) -> Part
     Part {
         left: 0,
         top: 0,
-        right: fewer(s.wide),
-        bottom: fewer(s.high),
+        right: s.wide.saturating_sub(1),
+        bottom: s.high.saturating_sub(1),
     }
 }
 

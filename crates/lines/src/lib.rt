@@ -3,9 +3,9 @@
 
 ghost use Rattle.std.specs.Prelude.{◌≡◌, length};
 
-use asked::FileVerdict;
+use asked::Verdict;
 use boxes::Refusal;
-use table::{ItemId, ItemRow};
+use table::ItemRow;
 
 // A tab and a number.
 pub fn print_field(n: u64) {
@@ -38,35 +38,29 @@ fn print_item(table: &[u32], row: ItemRow) {
     io::write_all(1, b"\t");
     io::print_hex(1, views::type_of(table, row) as u64, 8);
     print_word(table, row, 2);
-    let mut k: usize = 10;
-    while k < 15 {
+    for k in 10..15 {
         print_word(table, row, k);
-        k += 1;
     }
     io::write_all(1, b"\n");
 }
 
 // `file`, total, primary ID, items; then a line for each item, in the order of `iinf`.
-fn print_file(table: &[u32], total: u64, primary: ItemId, items: u32) {
+fn print_file(table: &[u32], total: u64, v: Verdict) {
     io::write_all(1, b"file");
     print_field(total);
-    print_field(primary.0 as u64);
-    print_field(items as u64);
+    print_field(v.primary.0 as u64);
+    print_field(v.items as u64);
     io::write_all(1, b"\n");
     let rows = arranged::rows_by_place(table);
-    let n = items as usize;
-    let mut k: usize = 0;
-    while k < n {
+    for k in 0..v.items as usize {
         print_item(table, ItemRow(table::word(&rows, k) as usize));
-        k += 1;
     }
 }
 
 // What the listing program prints for a file: its lines, or the refusal.
 pub fn print_listing(head: &[u8], total: u64, table: &mut [u32]) {
-    let v = still::verdict(head, total, table);
-    match v {
-        FileVerdict::Refused(f) => print_refusal(f),
-        FileVerdict::Accepted { items, primary } => print_file(&*table, total, primary, items),
+    match still::verdict(head, total, table) {
+        Ok(v) => print_file(&*table, total, v),
+        Err(f) => print_refusal(f),
     }
 }

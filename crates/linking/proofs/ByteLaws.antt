@@ -10,14 +10,13 @@ use mathlib.Core.Logic.{◌⊎◌, inl, inr, ⊎_elim}
 use lib.ListN.{length, get_or, set}
 use lib.Seq.{get_or-set_same, get_or-set_other}
 use lib.Dec.{ltb, leb, eqb}
+use Rattle.std.specs.Prelude.{Option, Some, None, unwrap_or}
 use borrow.Author.Tests.{lt-ltb, le-ltb, le-leb, lt-leb, eq-eqb, ne_eqb, ltb-true, not-true, not-false}
 use Rattle.fields.specs.Choice.{pick}
 use Rattle.fields.proofs.FieldLaws.{pick_yes, pick_no}
 use Rattle.fields.proofs.TestLaws.{untrue, and_both}
 use Rattle.records.specs.inner.Raw.{capped}
 use Rattle.views.specs.inner.View.{record_word}
-use Rattle.linking.specs.declared.Sum.{Sum}
-use Rattle.linking.specs.declared.Sum.TheVariants as sum
 use Rattle.linking.specs.inner.Links.{
   first_extent,
   extents,
@@ -357,9 +356,6 @@ module _ (t v : List ℕ) where
         (λ c. let z = level-over t v 8 r (omega arith) c in
         byte-unknown (suc j) r (omega arith) ∙ sym (byte-unknown 9 r (omega arith)))
 
-    pub linked_next : (k : ℕ) (g : Bool) → Swept t v n k a b g → (LinksIn t v n → Linked t v k n a) → LinksIn t v n → Linked t v (k + 1) n b
-    linked_next k g s h w = s.done w (h w)
-
     pub linked-last : (k : ℕ) (g : Bool) → 1 ≤ k → k ≤ 8 → g ≡ false → Swept t v n k a b g → (LinksIn t v n → Linked t v k n a) →
         LinksIn t v n → Linked t v 9 n b
     linked-last zero g p q e s h w r l = absurd (omega arith)
@@ -402,13 +398,13 @@ sum_grows t f m (suc n) h =
     (eq-or-lt_of_le {n = m} {m = suc n} h)
 
 pub sum_past : (t : List ℕ) (f e end s x : ℕ) → f ≤ e → e < end → s ≡ sum_from t f (e - f) → x ≡ size_at t e →
-    18446744073709551616 ≤ s + x → SumIs sum.Past (sum_from t f (end - f))
+    18446744073709551616 ≤ s + x → SumIs None (sum_from t f (end - f))
 unfolding SumIs
 sum_past t f e end s x h l p q o =
     omega (arith, sum_more t f e s x h p q, sum_grows t f (e + 1 - f) (end - f) (omega arith))
 
 pub sum_is : (t : List ℕ) (f e end s : ℕ) → e ≤ end → end ≤ e → s < 18446744073709551616 → s ≡ sum_from t f (e - f) →
-    SumIs (sum.Is s) (sum_from t f (end - f))
+    SumIs (Some s) (sum_from t f (end - f))
 unfolding SumIs
 sum_is t f e end s h l o p =
     let z : e ≡ end = omega arith in
@@ -416,26 +412,23 @@ sum_is t f e end s h l o p =
     (p ∙ u, omega arith)
 
 -- SumIs
-pub past_one : (t : List ℕ) (r : ℕ) → SumIs sum.Past (length_sum t r) → 32 ≡ 32 * one (is_past t r)
+pub past_one : (t : List ℕ) (r : ℕ) → SumIs None (length_sum t r) → 32 ≡ 32 * one (is_past t r)
 unfolding SumIs
 past_one t r h = let z = ap one (le-leb 18446744073709551616 (length_sum t r) h) in omega (arith, one-true)
 
-pub is_none : (t : List ℕ) (r s : ℕ) → SumIs (sum.Is s) (length_sum t r) → 0 ≡ 32 * one (is_past t r)
+pub is_none : (t : List ℕ) (r s : ℕ) → SumIs (Some s) (length_sum t r) → 0 ≡ 32 * one (is_past t r)
 unfolding SumIs
 is_none t r s h = let z = ap one (lt-leb 18446744073709551616 (length_sum t r) h.1) in omega (arith, one-false)
 
-pub past-capped : (m : ℕ) → SumIs sum.Past m → 18446744073709551615 ≡ capped m
+pub past-capped : (m : ℕ) → SumIs None m → 18446744073709551615 ≡ capped m
 unfolding SumIs
 past-capped m h = sym (pick_no m 18446744073709551615 (lt-leb m 18446744073709551615 (omega arith)))
 
-pub is-capped : (m s : ℕ) → SumIs (sum.Is s) m → s ≡ capped m
+pub is-capped : (m s : ℕ) → SumIs (Some s) m → s ≡ capped m
 unfolding SumIs
 is-capped m s h = h.0 ∙ sym (pick_yes m 18446744073709551615 (le-leb m 18446744073709551615 (omega (arith, h.1))))
 
 -- every, some: over the extents from f on, before an end
-pub each_more : (P : ℕ → Type 0) (f e : ℕ) → ((i : ℕ) → f ≤ i → i < e → P i) → P e → (i : ℕ) → f ≤ i → i < e + 1 → P i
-each_more P f e h p i a l = ⊎_elim (λ z. subst P (sym z) p) (λ z. h i a z) (eq-or-lt_of_le {n = i} {m = e} (omega arith))
-
 module _ (g : ℕ → Bool) (f e end : ℕ) (h : f ≤ e) where
   pub every_gap : e < end → g e ≡ false → false ≡ every (λ j. g (f + j)) (end - f)
   every_gap l q =
@@ -467,14 +460,8 @@ module _ (v l : List ℕ) (e x b : ℕ) (p : x ≡ named_row v e) (q : b ≡ lin
   pub below_no : (k : ℕ) → k ≤ b % 16 → names_below v l k e ≡ false
   below_no k h = ap (λ (i : ℕ). ltb (i % 16) k) (sym byte-read) ∙ le-ltb (b % 16) k h
 
-  pub below-yes : (k : ℕ) → b % 16 < k → names_below v l k e ≡ true
-  below-yes k h = ap (λ (i : ℕ). ltb (i % 16) k) (sym byte-read) ∙ lt-ltb (b % 16) k h
-
   pub marked-yes : 16 ≤ b → names_marked v l e ≡ true
   marked-yes h = ap (λ (i : ℕ). leb 16 i) (sym byte-read) ∙ le-leb 16 b h
-
-  pub marked_no : b < 16 → names_marked v l e ≡ false
-  marked_no h = ap (λ (i : ℕ). leb 16 i) (sym byte-read) ∙ lt-leb 16 b h
 
 -- one more word is put
 pub put-more : (P : ℕ → ℕ → Type 0) (l : List ℕ) (r b : ℕ) → r < length l → ((x : ℕ) → x < r → P x (get_or l x 0)) → P r b →
@@ -484,12 +471,11 @@ put-more P l r b i h p x k =
     (λ z. subst (P x) (sym (get_or-set_other l r x b 0 (λ y. absurd (omega arith)))) (h x z)) (eq-or-lt_of_le {n = x} {m = r} (omega arith))
 
 -- what a sum is told as
-module _ (t : List ℕ) (r f c : ℕ) (s : Sum) (fe : f ≡ first_extent t r) (ce : c ≡ extents t r) where
+module _ (t : List ℕ) (r f c : ℕ) (s : Option ℕ) (fe : f ≡ first_extent t r) (ce : c ≡ extents t r) where
   pub sum_row : SumIs s (sum_from t f (f + c - f)) → SumIs s (length_sum t r)
   sum_row h = subst (SumIs s) (sum_read t t r f c fe ce) h
 
-pub told-past : (m : ℕ) (s : Sum) → s ≡ sum.Past → SumIs s m → SumIs sum.Past m
-told-past m s e h = subst (λ (x : Sum). SumIs x m) e h
-
-pub told_is : (m y : ℕ) (s : Sum) → s ≡ sum.Is y → SumIs s m → SumIs (sum.Is y) m
-told_is m y s e h = subst (λ (x : Sum). SumIs x m) e h
+-- a sum as it is capped
+pub sum-capped : (m : ℕ) (s : Option ℕ) → SumIs s m → unwrap_or s 18446744073709551615 ≡ capped m
+sum-capped m None h = past-capped m h
+sum-capped m (Some s) h = is-capped m s h

@@ -19,13 +19,6 @@ const NAMES_PAST: u8 = 16;
 // Its own lengths do.
 const PAST: u8 = 32;
 
-// The sum of lengths, if it has 64 bits.
-#[derive(Drop)]
-pub enum Sum {
-    Is(u64),
-    Past,
-}
-
 // A word that the table is known to hold: what goes over all extents reads it without a test.
 fn held(table: &[u32], at: usize) -> u32
     requires { at < length table.now }
@@ -49,26 +42,20 @@ pub fn size_at(table: &[u32], e: usize) -> u64
     (held(table, 9234 + 4 * e) as u64) * 4294967296 + (held(table, 9235 + 4 * e) as u64)
 }
 
-// The sum of the lengths of the extents from one on, before an end.
-fn sum_between(table: &[u32], first: usize, end: usize) -> Sum
+// The sum of the lengths of the extents from one on, before an end, if it has 64 bits.
+fn sum_between(table: &[u32], first: usize, end: usize) -> Option<u64>
     requires { (first ≤ end) × (end ≤ 512) × (11280 ≤ length table.now) }
     ensures { SumIs result (sum_from table.now first (end - first)) }
 {
     let mut sum: u64 = 0;
-    let mut e = first;
-    while e < end {
-        let size = size_at(table, e);
-        if 18446744073709551615 - sum < size {
-            return Sum::Past;
-        }
-        sum += size;
-        e += 1;
+    for e in first..end {
+        sum = sum.checked_add(size_at(table, e))?;
     }
-    Sum::Is(sum)
+    Some(sum)
 }
 
-// The sum of the lengths of an item's extents.
-pub fn sum_of(table: &[u32], row: ItemRow) -> Sum
+// The sum of the lengths of an item's extents, if it has 64 bits.
+pub fn sum_of(table: &[u32], row: ItemRow) -> Option<u64>
     requires { 11280 ≤ length table.now }
     ensures { row.0 < 256 → first_extent table.now row.0 + extents table.now row.0 ≤ 512 →
         SumIs result (length_sum table.now row.0) }
@@ -76,7 +63,7 @@ pub fn sum_of(table: &[u32], row: ItemRow) -> Sum
     let first = views::held_word(table, row, 7) as usize;
     let count = views::held_word(table, row, 8) as usize;
     if 512 < first + count {
-        return Sum::Past;
+        return None;
     }
     sum_between(table, first, first + count)
 }
@@ -88,14 +75,8 @@ pub fn sums_of(table: &[u32], n: usize) -> [u64; 256]
         get_or result r 0 ≡ capped (length_sum table.now r) }
 {
     let mut sums = [0u64; 256];
-    let mut r: usize = 0;
-    while r < n {
-        let s = sum_of(table, ItemRow(r));
-        sums[r] = match s {
-            Sum::Past => 18446744073709551615,
-            Sum::Is(sum) => sum,
-        };
-        r += 1;
+    for r in 0..n {
+        sums[r] = sum_of(table, ItemRow(r)).unwrap_or(u64::MAX);
     }
     sums
 }
@@ -111,10 +92,9 @@ fn unfollowed(table: &[u32], row: ItemRow) -> u8
     } else {
         0
     };
-    let s = sum_of(table, row);
-    match s {
-        Sum::Past => level + PAST,
-        Sum::Is(_) => level,
+    match sum_of(table, row) {
+        None => level + PAST,
+        Some(_) => level,
     }
 }
 
@@ -123,10 +103,8 @@ fn put_rows(table: &[u32], links: &mut [u8], n: usize)
     requires { (n ≤ 256) × (n ≤ length links.old) × (11280 ≤ length table.now) }
     ensures { (v : List ℕ) → LinksIn table.now v n → Linked table.now v 1 n links.new }
 {
-    let mut r: usize = 0;
-    while r < n {
+    for r in 0..n {
         links[r] = unfollowed(table, ItemRow(r));
-        r += 1;
     }
 }
 
@@ -146,12 +124,10 @@ fn all_below(rows: &[u32], links: &[u8], first: usize, end: usize, k: u8) -> boo
     requires { (first ≤ end) × (end ≤ 512) × (2816 ≤ length rows.now) × (256 ≤ length links.now) }
     ensures { result ≡ every (λ j. names_below rows.now links.now k (first + j)) (end - first) }
 {
-    let mut e = first;
-    while e < end {
+    for e in first..end {
         if k <= link_named(links, held(rows, 2304 + e)) % 16 {
             return false;
         }
-        e += 1;
     }
     true
 }
@@ -162,12 +138,10 @@ fn some_past(rows: &[u32], links: &[u8], first: usize, end: usize) -> bool
     requires { (first ≤ end) × (end ≤ 512) × (2816 ≤ length rows.now) × (256 ≤ length links.now) }
     ensures { result ≡ some (λ j. names_marked rows.now links.now (first + j)) (end - first) }
 {
-    let mut e = first;
-    while e < end {
+    for e in first..end {
         if 16 <= link_named(links, held(rows, 2304 + e)) {
             return true;
         }
-        e += 1;
     }
     false
 }
@@ -205,12 +179,10 @@ fn settle_all(table: &[u32], rows: &[u32], links: &mut [u8], n: usize, k: u8) ->
     ensures { Swept table.now rows.now n k links.old links.new result }
 {
     let mut grew = false;
-    let mut r: usize = 0;
-    while r < n {
+    for r in 0..n {
         if settle(table, rows, &mut *links, ItemRow(r), k) {
             grew = true;
         }
-        r += 1;
     }
     grew
 }
@@ -224,12 +196,9 @@ pub fn links_of(table: &[u32], rows: &[u32], n: usize) -> [u8; 256]
 {
     let mut links = [0u8; 256];
     put_rows(table, &mut links, n);
-    let mut k: u8 = 1;
-    while k < NO_LEVEL {
-        if settle_all(table, rows, &mut links, n, k) {
-            k += 1;
-        } else {
-            k = NO_LEVEL;
+    for k in 1..NO_LEVEL {
+        if !settle_all(table, rows, &mut links, n, k) {
+            break;
         }
     }
     links

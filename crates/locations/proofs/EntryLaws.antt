@@ -8,6 +8,7 @@ use mathlib.Core.List.{List, [], ◌∷◌, ◌++◌, append_assoc, append-nil}
 use mathlib.Core.Bool.{true, false}
 use mathlib.Core.Logic.{◌⊎◌, inl, inr}
 use lib.ListN.{length, drop}
+use Rattle.std.specs.Prelude.{Result, Ok, Err}
 use lib.Dec.{leb, eqb}
 use borrow.Author.Tests.{le-leb, lt-leb}
 use Rattle.fields.specs.Field.{be_at}
@@ -34,20 +35,13 @@ use Rattle.records.specs.inner.Rows.{id_at, ids_in}
 use Rattle.records.proofs.IdLaws.{row_listed}
 use Rattle.locations.specs.declared.Widths.{Widths}
 use Rattle.locations.specs.declared.Rest.{Rest}
-use Rattle.locations.specs.declared.EntryRead.TheVariants as entry
 use Rattle.locations.specs.declared.EntryPut.{EntryPut}
-use Rattle.locations.specs.declared.EntryPut.TheVariants as put
-use Rattle.locations.specs.declared.RowRead.TheVariants as row
-use Rattle.locations.specs.declared.RestRead.TheVariants as rest
 use Rattle.locations.specs.inner.Parts.{
-  Size,
-  GoodWidths,
   new_form,
   rest_form,
   Lead,
   lead_form,
   entry_by,
-  each,
   extent_at,
   extents_at,
   extents_by,
@@ -70,22 +64,10 @@ reads_cut : {B : Type 0} (p : ℕ) (s : List ℕ) (at n : ℕ) (k : ℕ → List
 reads_cut p s at n k h f =
     elim (dec_le (at + n) (length s)) [ yes l ↦ reads_field p s at n k l ∙ f l | no l ↦ reads_short p s at n k h (omega (arith, l)) ]
 
--- GoodWidths: how wide a field is at most, and which width is left
-pub method-most : (n : ℕ) → (n ≡ 0) ⊎ (n ≡ 2) → n ≤ 2
-method-most n (inl e) = omega arith
-method-most n (inr e) = omega arith
-
-pub size-most : (n : ℕ) → Size n → n ≤ 8
-size-most n (inl e) = omega arith
-size-most n (inr (inl e)) = omega arith
-size-most n (inr (inr e)) = omega arith
-
+-- GoodWidths: which width is left
 pub two : (n : ℕ) → (n ≡ 0) ⊎ (n ≡ 2) → (n ≡ 0 → ⊥) → n ≡ 2
 two n (inl e) h = absurd (h e)
 two n (inr e) h = e
-
-pub each-most : (w : Widths) → GoodWidths w → each w ≤ 24
-each-most w z = omega (arith, size-most w.index z.index, size-most w.offset z.offset, size-most w.length z.length)
 
 -- rest-form
 module _ (w : Widths) (used p : ℕ) (s : List ℕ) (at : ℕ) (h : at ≤ length s) where
@@ -218,11 +200,11 @@ module _ (ids : List ℕ) (w : Widths) (ls : List Location) (p : ℕ) (s : List 
 
 -- EntryAre
 module _ (t : List ℕ) (n : ℕ) (w : Widths) (used p : ℕ) (s : List ℕ) (at : ℕ) (h : at ≤ length s) where
-  pub entry_short : length s - at < w.id → EntryAre t n w used p s at (entry.Refused (record { number = 8; place = p }))
+  pub entry_short : length s - at < w.id → EntryAre t n w used p s at (Err (record { number = 8; place = p }))
   entry_short l ls q = lead-short (ids_in t n) w ls p s at h l
 
   module _ (l : w.id ≤ length s - at) (id : ℕ) (e : id ≡ be_at s at w.id) where
-    pub entry_gone : (f : Refusal) → RowAre t n id p (row.Refused f) → EntryAre t n w used p s at (entry.Refused f)
+    pub entry_gone : (f : Refusal) → RowAre t n id p (Err f) → EntryAre t n w used p s at (Err f)
     entry_gone f g ls q = lead_gone (ids_in t n) w ls p s at h l id e f.number f.place (g used ls q)
 
     module _ (r : ℕ) (g : RowHere t n id r) where
@@ -230,7 +212,7 @@ module _ (t : List ℕ) (n : ℕ) (w : Widths) (used p : ℕ) (s : List ℕ) (at
           → reads (lead_form (ids_in t n) w ls) p (drop at s) k ≡ reads (rest_form w used) p (drop (at + w.id) s) (λ r t. k (record { id = id; rest = r }) t)
       go_on ls q k = lead-rest (ids_in t n) w ls p s at h l id e (g.new used ls q) (row_listed t n id r g.below g.same) k ∙ rw q.count
 
-      pub entry_rest_gone : (f : Refusal) → RestAre w used p s (at + w.id) (rest.Refused f) → EntryAre t n w used p s at (entry.Refused f)
+      pub entry_rest_gone : (f : Refusal) → RestAre w used p s (at + w.id) (Err f) → EntryAre t n w used p s at (Err f)
       entry_rest_gone f z ls q = rw read_reads (go_on ls q _ ∙ reads_refused (rest_form w used) p (drop (at + w.id) s) _ f.number f.place z)
 
       pub entry_here : (x : Rest) (end : ℕ) → RestHere w used p s (at + w.id) x end → EntryHere t n w used p s at r x end
@@ -254,7 +236,7 @@ entry_lead ids w ls p r k = simp (reads_bind, reads_give)
 
 -- StoredAre, MarkedAre, PutAre: an entry that was read up to its extents, once they, its place and its marks were put
 module _ (t u v y : List ℕ) (n : ℕ) (w : Widths) (used p : ℕ) (s : List ℕ) (at idat : ℕ) where
-  pub put_gone : (f : Refusal) → u ≡ t → y ≡ v → EntryAre t n w used p s at (entry.Refused f) → PutAre t u v y n w used p s at idat (put.Refused f)
+  pub put_gone : (f : Refusal) → u ≡ t → y ≡ v → EntryAre t n w used p s at (Err f) → PutAre t u v y n w used p s at idat (Err f)
   put_gone f e q h = (
     e,
     q,
@@ -275,11 +257,11 @@ module _ (t u v y : List ℕ) (n : ℕ) (w : Widths) (used p : ℕ) (s : List �
         }) q)
     lead-extents ls l = rw read_reads (entry_lead (ids_in t n) w ls p (drop at s) _ ∙ reads_got (lead_form (ids_in t n) w ls) p (drop at s) _ _ _ (h.read ls l))
 
-    pub put_are : (o : EntryPut) → StoredAre w s from p t u r x used idat o → MarkedAre used (eqb x.method 2) (extents_by w s from x.extents) v y o →
-        PutAre t u v y n w used p s at idat o
-    put_are (put.Refused f) z m =
+    pub put_are : (o : Result EntryPut Refusal) → StoredAre w s from p t u r x used idat o →
+        MarkedAre used (eqb x.method 2) (extents_by w s from x.extents) v y o → PutAre t u v y n w used p s at idat o
+    put_are (Err f) z m =
         (z.0, m, λ ls l. rw (z.1, z.2) (lead-extents ls l ∙ extents-cut w.index w.offset w.length p s _ x.extents from [] h.room z.3))
-    put_are (put.Is end k q) z m =
+    put_are (Ok o) z m =
         let few = h.few in
         let below = h.below in
         let e = z.count in

@@ -5,6 +5,7 @@ use native.Mathlib.Omega.{arith}
 use mathlib.Core.Path.{◌≡◌, refl, sym, ap, ◌∙◌, subst}
 use mathlib.Core.List.{List, [], ◌∷◌, ◌++◌}
 use lib.ListN.{length, drop}
+use Rattle.std.specs.Prelude.{Err}
 use lib.Seq.{length-sets}
 use Rattle.boxes.specs.Answer.{Answer, ok, refuse}
 use Rattle.boxes.specs.declared.Refusal.{Refusal}
@@ -26,20 +27,14 @@ use Rattle.records.proofs.IdLaws.{raw_ids}
 use Rattle.records.proofs.KeptLaws.{kept_same, kept_on}
 use Rattle.records.proofs.NamedLaws.{named-rows-none, named-rows-more}
 use Rattle.locations.specs.declared.Widths.{Widths}
-use Rattle.locations.specs.declared.LocationsRead.{LocationsRead}
-use Rattle.locations.specs.declared.EntryPut.TheVariants as put
-use Rattle.locations.specs.inner.Told.{told_locations, Unplaced, LocationsLeft}
+use Rattle.locations.specs.inner.Told.{Unplaced, LocationsLeft}
 use Rattle.locations.specs.inner.Parts.{entry_by, row_from, start_of, Located, PutHere, PutAre, EntriesLeft}
 use Rattle.locations.proofs.TableLaws.{put-kept, put-ids, located-none, located-more}
 use Rattle.locations.proofs.PutLaws.{row-length, rows-raw}
 
--- told_locations
-pub told_same : (r : LocationsRead) (x y : Answer (List Location)) → x ≡ y → r ≡ told_locations y → r ≡ told_locations x
-told_same r x y e h = rw e h
-
 -- EntriesLeft, LocationsLeft: nothing is told of the table where the entries are refused
 left-refused : (a : Answer (List Location)) (n idat : ℕ) (t u : List ℕ) (k p : ℕ) → Kept t u → a ≡ refuse k p → EntriesLeft a n idat t u
-left-refused a n idat t u k p h e = record { kept = h; told = λ pl f x ls q r z o g. let y : ◌≡◌ {A = ℕ} 0 1 = cc in absurd (omega arith) }
+left-refused a n idat t u k p h e = record { kept = h; told = λ pl f x ls q r z o g. cc }
 
 pub left-whole : (a : Answer (List Location)) (s : List ℕ) (place n idat : ℕ) (t u : List ℕ) →
     whole (iloc_form (ids_in t n)) place s ≡ a → EntriesLeft a n idat t u → LocationsLeft s place n idat t u
@@ -59,7 +54,7 @@ abbrev pub Marks : Answer (List Location) → List ℕ → Type 0
 Marks a v = (is : List Item) (ls : List Location) → a ≡ ok ls → NamedRows is ls [] v
 
 pub marks_refused : (a : Answer (List Location)) (v : List ℕ) (k p : ℕ) → a ≡ refuse k p → Marks a v
-marks_refused a v k p e is ls o = let y : ◌≡◌ {A = ℕ} 0 1 = cc in absurd (omega arith)
+marks_refused a v k p e is ls o = cc
 
 pub marks_read : (a : Answer (List Location)) (v : List ℕ) (ms : List Location) → a ≡ ok ms → ((is : List Item) → NamedRows is ms [] v) → Marks a v
 marks_read a v ms e h is ls o = subst (λ (ls : List Location). NamedRows is ls [] v) (ok_inj ms ls (sym e ∙ o)) (h is)
@@ -144,7 +139,7 @@ module _ (s : List ℕ) (from count : ℕ) (w : Widths) (p n idat : ℕ) (t₀ v
         let e : count - i ≡ suc (count - (i + 1)) = omega arith in
         so.same ∙ rw e (reads_more (entry_by (ids_in t₀ n) w) p (drop at s) (over p) (count - (i + 1)) so.ls)
 
-    pub so_refused : (f : Refusal) → PutAre t u v y n w used p s at idat (put.Refused f) →
+    pub so_refused : (f : Refusal) → PutAre t u v y n w used p s at idat (Err f) →
         (answer ≡ refuse f.number f.place) × EntriesLeft answer n idat t₀ u
     so_refused f z =
         let e = entry_next ∙ reads_refused (entry_by (ids_in t₀ n) w so.ls) p (drop at s) _ f.number f.place

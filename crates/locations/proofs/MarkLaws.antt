@@ -36,13 +36,13 @@ pub marks_begun : (i o l : ℕ) (s : List ℕ) (at used : ℕ) (v : List ℕ) �
 unfolding extents_at
 marks_begun i o l s at used v = refl
 
-pub marks_stored : (i o l : ℕ) (s : List ℕ) (at used j a x : ℕ) (v u y : List ℕ)
+pub marks_stored : (i o l : ℕ) (s : List ℕ) (at used j each x : ℕ) (v u y : List ℕ)
     → u ≡ sets v (2304 + used) (marks_of (extents_at i o l s at j))
-    → a ≡ at + j * (i + o + l)
-    → x ≡ mark_of (index_of i (be_at s a i))
+    → each ≡ i + o + l
+    → x ≡ mark_of (index_of i (be_at s (at + j * each) i))
     → y ≡ set u (2304 + used + j) x
     → y ≡ sets v (2304 + used) (marks_of (extents_at i o l s at (j + 1)))
-marks_stored i o l s at used j a x v u y eu ea ex ey =
+marks_stored i o l s at used j each x v u y eu ee ex ey =
     let ws = marks_of (extents_at i o l s at j) in
     let e = extent_at i o l s (at + j * (i + o + l)) in
     let n : j ≡ length ws = sym (length-map (extents_at i o l s at j) (λ (e : Extent). mark_of e.index) ∙ extents-count i o l s at j) in
@@ -51,7 +51,7 @@ marks_stored i o l s at used j a x v u y eu ea ex ey =
     rw (add-one j) (ap marks_of (extents_next i o l s at j) ∙ map-append (λ (e : Extent). mark_of e.index) (extents_at i o l s at j) (e ∷ []))
     in
     ey
-    ∙ rw (eu, q, ex, ea)
+    ∙ rw (eu, q, ex, ee)
     (sym (ap (sets v (2304 + used)) next ∙ sets_append ws (mark_of e.index ∷ []) v (2304 + used)))
 
 -- MarkedAre: the marks of an entry of method 2, and none of another

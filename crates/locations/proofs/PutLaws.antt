@@ -1,5 +1,5 @@
 -- Entries into the table: the words of extents, one entry, and all of them. Assumes nothing.
-use Prim.Native.Nat.{ℕ, suc, ◌+◌, ◌-◌, ◌*◌, ◌<◌, ◌≤◌}
+use Prim.Native.Nat.{ℕ, suc, ◌+◌, ◌-◌, ◌*◌, ◌<◌, ◌≤◌, min}
 use native.Mathlib.Nat.{suc-mul, mul-le-mul_right}
 use native.Mathlib.Numerals.{add-one, towards_suc}
 use native.Mathlib.Decide.{dec_le}
@@ -39,6 +39,13 @@ capped_large x h = go (leb x largest) refl
     go : (t : Bool) → leb x largest ≡ t → capped x ≡ largest
     go true e = let l = leb-true x largest e in pick_yes _ _ e ∙ omega arith
     go false e = pick_no _ _ e
+
+pub capped_least : (x : ℕ) → min x largest ≡ capped x
+capped_least x =
+    elim (dec_le x largest) [
+      | yes l ↦ omega (arith, capped_small x l)
+      | no l ↦ let h : largest ≤ x = omega (arith, l) in omega (arith, capped_large x h)
+    ]
 
 pub capped_twice : (a b : ℕ) → capped (capped a + b) ≡ capped (a + b)
 capped_twice a b =
@@ -85,16 +92,16 @@ pub extents_begun : (i o l : ℕ) (s : List ℕ) (at start used : ℕ) (t : List
 unfolding extents_at join_all
 extents_begun i o l s at start used t = refl
 
-pub extents-stored : (i o l : ℕ) (s : List ℕ) (at start used j a x z c : ℕ) (t u v : List ℕ)
+pub extents-stored : (i o l : ℕ) (s : List ℕ) (at start used j e x z c : ℕ) (t u v : List ℕ)
     → u ≡ sets t (9232 + 4 * used) (join_all (row_from start) (extents_at i o l s at j))
-    → a ≡ at + j * (i + o + l)
-    → x ≡ be_at s (a + i) o
-    → z ≡ be_at s (a + i + o) l
+    → e ≡ i + o + l
+    → x ≡ be_at s (at + j * e + i) o
+    → z ≡ be_at s (at + j * e + i + o) l
     → c ≡ capped (start + x)
     → v ≡ sets u (9232 + 4 * (used + j)) (high_low c ++ high_low z)
     → v ≡ sets t (9232 + 4 * used) (join_all (row_from start) (extents_at i o l s at (j + 1)))
 unfolding row_from
-extents-stored i o l s at start used j a x z c t u v eu ea ex ez ec ev =
+extents-stored i o l s at start used j e x z c t u v eu ee ex ez ec ev =
     let ws = join_all (row_from start) (extents_at i o l s at j) in
     let n : length ws ≡ 4 * j = join-length (row_from start) 4 (row-length start) (extents_at i o l s at j) ∙
     ap (λ (k : ℕ). 4 * k) (extents-count i o l s at j) in
@@ -103,19 +110,16 @@ extents-stored i o l s at start used j a x z c t u v eu ea ex ez ec ev =
     rw (add-one j) (ap (join_all (row_from start)) (extents_next i o l s at j) ∙ join_snoc (row_from start) (extents_at i o l s at j) _)
     in
     ev
-    ∙ rw (eu, q, ec, ex, ez, ea)
+    ∙ rw (eu, q, ec, ex, ez, ee)
     (sym (ap (λ (r : List ℕ). sets t (9232 + 4 * used) r) next ∙
     sets_append ws (row_from start (extent_at i o l s (at + j * (i + o + l)))) t (9232 + 4 * used)))
 
 -- where one of so many extents ends, and what bounds their sizes
-pub one-fits : (at k j e a n : ℕ) → at + k * e ≤ n → j < k → a ≡ at + j * e → a + e ≤ n
-one-fits at k j e a n h l q = let m = suc-mul j e in let o : suc j * e ≤ k * e = mul-le-mul_right e l in omega arith
+pub one_fits : (at k j e n : ℕ) → at + k * e ≤ n → j < k → at + j * e + e ≤ n
+one_fits at k j e n h l = let m = suc-mul j e in let o : suc j * e ≤ k * e = mul-le-mul_right e l in omega arith
 
-pub one_further : (at j i o l a : ℕ) → a ≡ at + j * (i + o + l) → a + i + o + l ≡ at + (j + 1) * (i + o + l)
-one_further at j i o l a q = let m = suc-mul j (i + o + l) in rw add-one (omega arith)
-
-pub sizes-most : (k e : ℕ) → k ≤ 512 → e ≤ 24 → k * e ≤ 12288
-sizes-most k e h l = let m : k * e ≤ 512 * e = mul-le-mul_right e h in omega arith
+pub sizes_most : (k e : ℕ) → k ≤ 512 → e ≤ 24 → k * e ≤ 12288
+sizes_most k e h l = let m : k * e ≤ 512 * e = mul-le-mul_right e h in omega arith
 
 -- four and five stores side by side
 pub four_stored : (t : List ℕ) (a b p q r x : ℕ) → a ≡ b → set (set (set (set t a p) (a + 1) q) (a + 2) r) (a + 3) x ≡ sets t b (p ∷ q ∷ r ∷ x ∷ [])

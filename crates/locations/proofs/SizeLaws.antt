@@ -6,12 +6,14 @@ use mathlib.Core.List.{List, []}
 use mathlib.Core.Bool.{Bool, true, false, ◌&&◌, ◌||◌}
 use mathlib.Core.Logic.{◌⊎◌, inl, inr, ⊎_elim}
 use lib.ListN.{length, drop}
+use Rattle.std.specs.Prelude.{Result}
 use lib.Dec.{eqb}
 use borrow.Author.Tests.{eqb-true, le-leb, lt-leb}
 use Rattle.fields.specs.Choice.{pick}
 use Rattle.fields.specs.Field.{be_at}
 use Rattle.fields.proofs.TestLaws.{and_both, or_either}
 use Rattle.boxes.specs.Answer.{Answer, refuse}
+use Rattle.boxes.specs.declared.Refusal.{Refusal}
 use Rattle.forms.specs.Form.{Got, demand, field, many, whole}
 use Rattle.forms.proofs.StepLaws.{
   reads,
@@ -28,6 +30,7 @@ use Rattle.forms.proofs.StepLaws.{
   reads_give,
 }
 use Rattle.contents.specs.Full.{full, upto}
+use Rattle.contents.specs.declared.Full as code
 use Rattle.contents.specs.Iloc.{field_size, iloc_form, entry_form}
 use Rattle.contents.proofs.FullLaws.{FullHere}
 use Rattle.locations.specs.declared.Widths.{Widths}
@@ -170,7 +173,7 @@ module _ (v p : ℕ) (s : List ℕ) (h : 4 ≤ length s) where
               ∙ rw (← eb) (reads_yes p (drop 6 s) 10 _ _ y.0 ∙ reads_yes p (drop 6 s) 10 _ _ y.1 ∙
               sym (read_reads (count_form (widths_by v a b)) p (drop 6 s))))
 
-          pub sizes-count : (o : Sizes) → SizesAre ((count_form w).read p (drop 6 s)) s o → SizesAre ((sizes_form v).read p (drop 4 s)) s o
+          pub sizes-count : (o : Result Sizes Refusal) → SizesAre ((count_form w).read p (drop 6 s)) s o → SizesAre ((sizes_form v).read p (drop 4 s)) s o
           sizes-count o h = subst (λ (x : Answer (Got Front)). SizesAre x s o) (sym count-read) h
 
           pub sizes-sized : GoodWidths w
@@ -186,15 +189,15 @@ module _ (ids : List ℕ) (p : ℕ) (s : List ℕ) where
   pub iloc_gone : (n q : ℕ) → (full (upto 2)).read p s ≡ refuse n q → whole (iloc_form ids) p s ≡ refuse n q
   iloc_gone n q e = iloc_parts ∙ reads_refused (full (upto 2)) p s _ n q e
 
-  module _ (v f : ℕ) (h : FullHere (upto 2) p s v f) where
-    pub iloc-sizes_gone : (n q : ℕ) → (sizes_form v).read p (drop 4 s) ≡ refuse n q → whole (iloc_form ids) p s ≡ refuse n q
-    iloc-sizes_gone n q e = iloc_parts ∙ reads_got (full (upto 2)) p s _ _ _ h.read ∙ reads_refused (sizes_form v) p (drop 4 s) _ n q e
+  module _ (v : code.Full) (h : FullHere (upto 2) p s v) where
+    pub iloc-sizes_gone : (n q : ℕ) → (sizes_form v.version).read p (drop 4 s) ≡ refuse n q → whole (iloc_form ids) p s ≡ refuse n q
+    iloc-sizes_gone n q e = iloc_parts ∙ reads_got (full (upto 2)) p s _ _ _ h.read ∙ reads_refused (sizes_form v.version) p (drop 4 s) _ n q e
 
-    pub iloc_entries : (w : Widths) (n : ℕ) → SizesHere ((sizes_form v).read p (drop 4 s)) s w n → (at : ℕ) →
+    pub iloc_entries : (w : Widths) (n : ℕ) → SizesHere ((sizes_form v.version).read p (drop 4 s)) s w n → (at : ℕ) →
         6 + w.id ≡ at → whole (iloc_form ids) p s ≡ whole (many (entry_by ids w) n []) p (drop at s)
     iloc_entries w n z at e =
         iloc_parts
         ∙ reads_got (full (upto 2)) p s _ _ _ h.read
-        ∙ reads_got (sizes_form v) p (drop 4 s) _ _ _ z.read
+        ∙ reads_got (sizes_form v.version) p (drop 4 s) _ _ _ z.read
         ∙ sym (whole_reads (many (entry_by ids w) n []) p (drop (6 + w.id) s))
         ∙ ap (λ (k : ℕ). whole (many (entry_by ids w) n []) p (drop k s)) e

@@ -7,6 +7,7 @@ use mathlib.Core.List.{List, [], ◌∷◌, ◌++◌}
 use mathlib.Core.Bool.{Bool, true, false}
 use mathlib.Core.Logic.{◌⊎◌, inl, inr, ⊎_elim}
 use lib.ListN.{length, get_or}
+use Rattle.std.specs.Prelude.{Ok, Err, Some, None}
 use lib.Seq.{sets, length-sets}
 use lib.Dec.{eqb}
 use borrow.Author.Tests.{eqb-true, eqb-false}
@@ -22,7 +23,6 @@ use Rattle.rules.specs.Places.{Places}
 use Rattle.records.specs.inner.Raw.{raw_of}
 use Rattle.records.specs.inner.Rows.{id_at, ids_in, Distinct, FoundIs}
 use Rattle.records.specs.inner.Stage.{Kept, Ready}
-use Rattle.records.specs.declared.FoundRow.TheVariants.{At, Nothing}
 use Rattle.records.proofs.MemberLaws.{member-last, member-other}
 use Rattle.records.proofs.RawLaws.{raw-located}
 use Rattle.records.proofs.SetsLaws.{sets_below, sets-above, sets_in}
@@ -32,7 +32,6 @@ use Rattle.records.proofs.IdLaws.{ids-same, row_listed, row_missing, raw_ids, di
 use Rattle.records.proofs.KeptLaws.{kept_on, kept_sets}
 use Rattle.locations.specs.inner.Told.{Unplaced}
 use Rattle.locations.specs.inner.Parts.{Located, RowAre, new_form}
-use Rattle.locations.specs.declared.RowRead.TheVariants as row
 
 -- the table of a file that has no entry: no item has one
 pub raw_unplaced : (pl : Places) (x : List ℕ) (f : File) (n : ℕ) → Ready f n → f.locations ≡ [] → Unplaced (raw_of [] pl f ++ x) n
@@ -67,17 +66,17 @@ flag_clear false e = refl
 
 -- RowAre: what a lookup and the flag of the row found tell
 module _ (t : List ℕ) (n id p : ℕ) where
-  module _ (r : ItemRow) (g : FoundIs t n id (At r)) where
+  module _ (r : ItemRow) (g : FoundIs t n id (Some r)) where
     located_flag : (used : ℕ) (ls : List Location) → Located t n used ls → get_or t (16 + 16 * r.0 + 11) 0 ≡ pick (member id (located_in ls)) 1 0
     located_flag used ls l = l.flags r.0 g.0 ∙ ap (λ (x : ℕ). pick (member x (located_in ls)) 1 0) g.1
 
-    pub row_twice : get_or t (16 + 16 * r.0 + 11) 0 ≡ 1 → RowAre t n id p (row.Refused (record { number = 10; place = p }))
+    pub row_twice : get_or t (16 + 16 * r.0 + 11) 0 ≡ 1 → RowAre t n id p (Err (record { number = 10; place = p }))
     row_twice e used ls l x = twice (ids_in t n) ls id p x (flag_set _ (sym (located_flag used ls l) ∙ e))
 
-    pub row_here : (get_or t (16 + 16 * r.0 + 11) 0 ≡ 1 → ⊥) → RowAre t n id p (row.Is r)
+    pub row_here : (get_or t (16 + 16 * r.0 + 11) 0 ≡ 1 → ⊥) → RowAre t n id p (Ok r)
     row_here e = record { below = g.0; same = g.1; new = λ used ls l. flag_clear _ (λ q. e (located_flag used ls l ∙ q)) }
 
-  pub row-unlisted : FoundIs t n id Nothing → RowAre t n id p (row.Refused (record { number = 11; place = p }))
+  pub row-unlisted : FoundIs t n id None → RowAre t n id p (Err (record { number = 11; place = p }))
   row-unlisted g used ls l x =
       let none = row_missing t n id g in
       unlisted (ids_in t n) ls id p x (new (member id (located_in ls)) refl none) none

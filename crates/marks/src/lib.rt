@@ -17,11 +17,9 @@ fn mark(marks: &mut [u32], x: usize) -> bool
     requires { Bits marks.old }
     ensures { Spread (λ y. x ≡ y) marks.old marks.new result }
 {
-    if x < marks.len() {
-        if marks[x] == 0 {
-            marks[x] = 1;
-            return true;
-        }
+    if x < marks.len() && marks[x] == 0 {
+        marks[x] = 1;
+        return true;
     }
     false
 }
@@ -55,11 +53,8 @@ fn reach(
     let k = table::word(table, 22 + 16 * r) as usize;
     let first = table::word(table, 21 + 16 * r) as usize;
     let mut end = start;
-    let mut j: usize = 0;
-    while j < k {
-        let x = table::word(rows, first + j);
-        end = list_row(marks, list, end, x);
-        j += 1;
+    for j in 0..k {
+        end = list_row(marks, list, end, table::word(rows, first + j));
     }
     end
 }
@@ -99,6 +94,7 @@ fn reach_all(
 {
     let mut end = start;
     let mut k: usize = 0;
+    // A while: the list grows while it is gone through.
     while k < end {
         end = reach_listed(table, rows, n, marks, list, end, k);
         k += 1;
@@ -146,12 +142,10 @@ fn rests_on_marked(table: &[u32], rows: &[u32], marks: &[u32], row: ItemRow) -> 
     let r = row.0;
     let k = table::word(table, 22 + 16 * r) as usize;
     let first = table::word(table, 21 + 16 * r) as usize;
-    let mut j: usize = 0;
-    while j < k {
+    for j in 0..k {
         if table::word(marks, table::word(rows, first + j) as usize) != 1 {
             return false;
         }
-        j += 1;
     }
     true
 }
@@ -162,10 +156,8 @@ fn ground_row(table: &[u32], rows: &[u32], marks: &mut [u32], row: ItemRow) -> b
     ensures { Ground table.now rows.now marks.old marks.new result }
 {
     let r = row.0;
-    if table::word(&*marks, r) == 0 {
-        if rests_on_marked(table, rows, &*marks, row) {
-            return mark(marks, r);
-        }
+    if table::word(&*marks, r) == 0 && rests_on_marked(table, rows, &*marks, row) {
+        return mark(marks, r);
     }
     false
 }
@@ -176,13 +168,11 @@ fn ground(table: &[u32], rows: &[u32], n: usize, up: bool, marks: &mut [u32]) ->
     ensures { Ground table.now rows.now marks.old marks.new result }
 {
     let mut grew = false;
-    let mut k: usize = 0;
-    while k < n {
+    for k in 0..n {
         let row = depths::row_in_sweep(n, k, up);
         if ground_row(table, rows, marks, row) {
             grew = true;
         }
-        k += 1;
     }
     grew
 }
@@ -191,12 +181,10 @@ fn ground(table: &[u32], rows: &[u32], n: usize, up: bool, marks: &mut [u32]) ->
 fn all_marked(marks: &[u32], n: usize) -> bool
     ensures { result ≡ true → (r : ℕ) → r < n → Marked marks.now r }
 {
-    let mut r: usize = 0;
-    while r < n {
+    for r in 0..n {
         if table::word(marks, r) != 1 {
             return false;
         }
-        r += 1;
     }
     true
 }
@@ -211,6 +199,7 @@ pub fn all_grounded(table: &[u32], rows: &[u32], n: usize) -> bool
     let mut marks = [0u32; 256];
     let mut up = false;
     let mut more = true;
+    // A while: it ends with the first sweep that marks nothing new.
     while more {
         up = !up;
         more = ground(table, rows, n, up, &mut marks);

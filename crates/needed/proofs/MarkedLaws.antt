@@ -25,13 +25,6 @@ module _ (t marks : List ℕ) where
   abbrev pub chosen : ℕ → Bool
   chosen n = eqb (get_or marks n 0) 1 && coded (record_word t n 1)
 
-  -- chosen, as the code looks for it
-  pub chosen_coded : (n w k : ℕ) (b : Bool) → w ≡ get_or marks n 0 → w ≡ 1 → k ≡ record_word t n 1 → b ≡ coded k → b ≡ chosen n
-  chosen_coded n w k b e z f g = g ∙ ap coded f ∙ rw (eq-eqb (get_or marks n 0) 1 (sym e ∙ z))
-
-  pub chosen_not : (n w : ℕ) → w ≡ get_or marks n 0 → (w ≡ 1 → ⊥) → false ≡ chosen n
-  chosen_not n w e z = rw (ne_eqb (get_or marks n 0) 1 (λ m. z (e ∙ m)))
-
   -- marked_of
   marked-yes : (n : ℕ) → chosen n ≡ true → marked_of t marks (n + 1) ≡ marked_of t marks n ++ (record_word t n 0 ∷ [])
   unfolding marked_of

@@ -12,11 +12,7 @@ use table::ItemRow;
 fn is_source(table: &[u32], marks: &[u32], row: ItemRow) -> bool
     ensures { row.0 < 256 → result ≡ (eqb (get_or marks.now row.0 0) 1 && coded (record_word table.now row.0 1)) }
 {
-    let r = row.0;
-    if table::word(marks, r) == 1 {
-        return views::is_coded(views::type_of(table, row));
-    }
-    false
+    table::word(marks, row.0) == 1 && views::is_coded(views::type_of(table, row))
 }
 
 // How many sources the marks leave.
@@ -25,12 +21,10 @@ pub fn count_sources(table: &[u32], marks: &[u32], n: usize) -> usize
     ensures { result ≡ length (marked_of table.now marks.now n) }
 {
     let mut count: usize = 0;
-    let mut k: usize = 0;
-    while k < n {
+    for k in 0..n {
         if is_source(table, marks, views::row_at(table, k)) {
             count += 1;
         }
-        k += 1;
     }
     count
 }
@@ -43,8 +37,7 @@ pub fn put_sources(table: &[u32], marks: &[u32], n: usize, list: &mut [u32])
         drop (length (marked_of table.now marks.now n)) list.old }
 {
     let mut count: usize = 0;
-    let mut k: usize = 0;
-    while k < n {
+    for k in 0..n {
         let row = views::row_at(table, k);
         if is_source(table, marks, row) {
             if count < list.len() {
@@ -52,6 +45,5 @@ pub fn put_sources(table: &[u32], marks: &[u32], n: usize, list: &mut [u32])
             }
             count += 1;
         }
-        k += 1;
     }
 }

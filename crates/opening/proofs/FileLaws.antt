@@ -1,11 +1,12 @@
 -- From the answer of opening to the file: refused, or accepted and the table is its. Assumes nothing.
 use Prim.Native.Nat.{ℕ, ◌<◌, ◌≤◌}
-use native.Mathlib.Omega.{arith}
-use mathlib.Core.Path.{◌≡◌, refl, sym, ap, ◌∙◌}
+use mathlib.Core.Path.{◌≡◌, sym, ap, ◌∙◌}
 use mathlib.Core.List.{List, ◌++◌}
 use lib.ListN.{length, drop}
 use borrow.Author.Tests.{leb-true}
+use Rattle.std.specs.Prelude.{Ok, Err}
 use Rattle.boxes.specs.Answer.{Answer, ok, refuse}
+use Rattle.boxes.proofs.ToldLaws.{told-ok, told-refused}
 use Rattle.boxes.specs.declared.Refusal.{Refusal}
 use Rattle.boxes.proofs.AnswerLaws.{then_ok, check-ok}
 use Rattle.contents.specs.File.{File, read_file}
@@ -18,19 +19,14 @@ use Rattle.rules.proofs.RuleLaws.{accepted-both}
 use Rattle.views.proofs.ViewLaws.{words-view}
 use Rattle.views.proofs.FillLaws.{words-sized}
 use Rattle.opening.specs.Told.{told_opened}
-use Rattle.opening.specs.declared.Opened.TheVariants as opens
 use Rattle.opening.proofs.OpenedLaws.{opened-is, left_is, after_is}
 
 -- told_opened
-pub opened-refused : (m : Answer File) (y : Refusal) → told_opened m ≡ opens.Refused y → m ≡ refuse y.number y.place
-unfolding told_opened
-opened-refused (ok f) y e = let z : ◌≡◌ {A = ℕ} 0 1 = cc in absurd (omega arith)
-opened-refused (refuse n p) y e = let i : n ≡ y.number = cc in let j : p ≡ y.place = cc in rw (i, j)
+pub opened-refused : (m : Answer File) (y : Refusal) → told_opened m ≡ Err y → m ≡ refuse y.number y.place
+opened-refused m y e = told-refused _ m y e
 
-pub opened-file : (m : Answer File) → told_opened m ≡ opens.Accepted → (f : File) × (m ≡ ok f)
-unfolding told_opened
-opened-file (ok f) e = (f, refl)
-opened-file (refuse n p) e = let z : ◌≡◌ {A = ℕ} 0 1 = cc in absurd (omega arith)
+pub opened-file : (m : Answer File) → told_opened m ≡ Ok tt → (f : File) × (m ≡ ok f)
+opened-file m e = let o = told-ok _ m tt e in (o.0, o.1)
 
 module _ (total : ℕ) (head t : List ℕ) where
   -- accepted: the table is its

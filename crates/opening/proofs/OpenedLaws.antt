@@ -10,7 +10,10 @@ use lib.Dec.{leb}
 use borrow.Author.Tests.{leb-true, le-leb, le-ltb}
 use Rattle.fields.proofs.FieldLaws.{pick_yes, pick_no}
 use Rattle.table.specs.inner.Clear.{cleared}
-use Rattle.boxes.specs.Answer.{Answer, ok, refuse, check, ◌>>=◌, ◌>>◌}
+use Rattle.std.specs.Prelude.{Result, Ok, Err, OnOk}
+use Rattle.boxes.specs.Answer.{ok, refuse, check, ◌>>=◌, ◌>>◌}
+use Rattle.boxes.specs.Told.{told}
+use Rattle.boxes.proofs.ToldLaws.{told-ok, told-refused}
 use Rattle.boxes.proofs.AnswerLaws.{then_ok, check-ok, ok_inj}
 use Rattle.boxes.specs.declared.Refusal.{Refusal}
 use Rattle.contents.specs.File.{File, read_file}
@@ -21,11 +24,10 @@ use Rattle.rules.specs.Opening.{accepted, opened, left_by, after_by, file_after}
 use Rattle.records.specs.inner.Raw.{raw_of}
 use Rattle.records.specs.inner.Rows.{Rowed}
 use Rattle.records.proofs.RawLaws.{raw-length}
-use Rattle.reading.specs.inner.Parts.{told_file, read_answer, read_words}
+use Rattle.reading.specs.inner.Parts.{read_answer, read_words}
 use Rattle.reading.specs.inner.Parts as Parts
-use Rattle.reading.specs.declared.FileRead.TheVariants as read
+use Rattle.reading.specs.declared.Idat.{Idat}
 use Rattle.judging.specs.inner.Order.{told_judged, Read}
-use Rattle.judging.specs.declared.Judged.TheVariants as judge
 use Rattle.records.proofs.BoundLaws.{read_bounds}
 use Rattle.rules.proofs.RuleLaws.{judged-each}
 use Rattle.records.specs.inner.Named.{NamedIn}
@@ -34,33 +36,10 @@ use Rattle.judging.proofs.JudgeLaws.{rowed_resolved, read_here, drawn}
 use Rattle.arranged.specs.inner.Order.{InOrder}
 use Rattle.opening.proofs.OrderLaws.{ordered_places}
 use Rattle.opening.specs.Told.{told_opened}
-use Rattle.opening.specs.declared.Opened.TheVariants.{Accepted, Refused}
 
--- told_file
-told-refused : (idat : ℕ) (m : Answer File) (y : Refusal) → told_file idat m ≡ read.Refused y → m ≡ refuse y.number y.place
-unfolding told_file
-told-refused idat (ok f) y e = let z : ◌≡◌ {A = ℕ} 0 1 = cc in absurd (omega arith)
-told-refused idat (refuse n p) y e = let i : n ≡ y.number = cc in let j : p ≡ y.place = cc in rw (i, j)
-
-told-read : (idat : ℕ) (m : Answer File) (i e : ℕ) → told_file idat m ≡ read.Is i e → (f : File) × (m ≡ ok f) × (idat + length f.idat ≡ e)
-unfolding told_file
-told-read idat (ok f) i e h = (f, refl, cc)
-told-read idat (refuse n p) i e h = let z : ◌≡◌ {A = ℕ} 0 1 = cc in absurd (omega arith)
-
--- told_judged
-judged-refused : (m : Answer (Unit {0})) (y : Refusal) → judge.Refused y ≡ told_judged m → m ≡ refuse y.number y.place
-unfolding told_judged
-judged-refused (ok u) y e = let z : ◌≡◌ {A = ℕ} 0 1 = cc in absurd (omega arith)
-judged-refused (refuse n p) y e = let i : n ≡ y.number = cc in let j : p ≡ y.place = cc in rw (i, j)
-
-judged-good : (m : Answer (Unit {0})) → judge.Good ≡ told_judged m → m ≡ ok tt
-unfolding told_judged
-judged-good (ok tt) e = refl
-judged-good (refuse n p) e = let z : ◌≡◌ {A = ℕ} 0 1 = cc in absurd (omega arith)
-
--- what is refused is not accepted
-pub not-accepted : {A : Type 0} (y : Refusal) → Refused y ≡ Accepted → A
-not-accepted y e = let z : ◌≡◌ {A = ℕ} 0 1 = cc in absurd (omega arith)
+-- what is refused promises nothing more
+pub on-refused : (P : Type 0) (y : Result (Unit {0}) Refusal) (r : Refusal) → y ≡ Err r → OnOk y P
+on-refused P y r e = rw e tt
 
 module _ (total : ℕ) (head t : List ℕ) where
   -- a table of sufficient length
@@ -82,9 +61,9 @@ module _ (total : ℕ) (head t : List ℕ) where
 
     -- what refuses leaves 0
     off : (y : Refusal) → accepted total head ≡ refuse y.number y.place →
-        (Refused y ≡ told_opened (opened (length t) total head)) ×
+        (Err y ≡ told_opened (opened (length t) total head)) ×
         (replicate 11280 0 ++ drop 11280 t ≡ file_after total head t)
-    unfolding told_opened left_by
+    unfolding told left_by
     off y e = (ap told_opened (sym (opened-is ∙ e)), sym (after_is ∙ ap (left_by file_words total head t) e))
 
     refused : {y : Refusal} → read_file total head ≡ refuse y.number y.place → accepted total head ≡ refuse y.number y.place
@@ -100,13 +79,13 @@ module _ (total : ℕ) (head t : List ℕ) where
   short q = pick_no _ _ q ∙ sym (pick_no _ _ q)
 
   -- reading refuses
-  pub read_off : (y : Refusal) → read_answer (length t) total head ≡ read.Refused y →
-      (Refused y ≡ told_opened (opened (length t) total head)) × (read_words total head t ≡ file_after total head t)
-  unfolding read_answer opened told_opened check ◌>>◌
+  pub read_off : (y : Refusal) → read_answer (length t) total head ≡ Err y →
+      (Err y ≡ told_opened (opened (length t) total head)) × (read_words total head t ≡ file_after total head t)
+  unfolding read_answer opened told check ◌>>◌
   read_off y e = by (leb table_words (length t)) refl (told-refused _ _ y e)
     where
       by : (b : Bool) → leb table_words (length t) ≡ b → (check 1 0 (leb table_words (length t)) >> read_file total head) ≡ refuse y.number y.place
-          → (Refused y ≡ told_opened (opened (length t) total head)) × (read_words total head t ≡ file_after total head t)
+          → (Err y ≡ told_opened (opened (length t) total head)) × (read_words total head t ≡ file_after total head t)
       by true q r =
           let h = leb-true table_words (length t) q in
           let g : read_file total head ≡ refuse y.number y.place = sym (ap (λ (b : Bool). check 1 0 b >> read_file total head) q) ∙ r in
@@ -117,14 +96,14 @@ module _ (total : ℕ) (head t : List ℕ) where
           (ap told_opened (sym (ap (λ (b : Bool). check 1 0 b >> accepted total head) q ∙ g)), short q)
 
   -- the file is read
-  pub read-on : (i e : ℕ) (u : List ℕ) → read_answer (length t) total head ≡ read.Is i e → u ≡ read_words total head t →
-      (11280 ≤ length t) × ((f : File) × Read u head total e f (drop 11280 t))
+  pub read-on : (d : Idat) (u : List ℕ) → read_answer (length t) total head ≡ Ok d → u ≡ read_words total head t →
+      (11280 ≤ length t) × ((f : File) × Read u head total d.idat_end f (drop 11280 t))
   unfolding read_answer Parts.left_by_reading
-  read-on i e u h w =
-      let m = told-read _ _ i e h in
+  read-on d u h w =
+      let m = told-ok _ _ d h in
       let c = then_ok _ _ m.0 m.1 in
       let l = leb-true table_words (length t) (check-ok 1 0 _ c.0 c.1) in
-      (l, (m.0, record { read = c.2; is = w ∙ words_are l ∙ ap (Parts.left_by_reading total head t) c.2; ends = m.2 }))
+      (l, (m.0, record { read = c.2; is = w ∙ words_are l ∙ ap (Parts.left_by_reading total head t) c.2; ends = ap (λ (y : Idat). y.idat_end) m.2 }))
 
   -- what lies behind the table is still there
   pub read_behind : (u x : List ℕ) (e : ℕ) (f : File) → Read u head total e f x → drop 11280 u ≡ x
@@ -134,23 +113,23 @@ module _ (total : ℕ) (head t : List ℕ) where
 
   -- and judged: refused, and the table cleared
   pub judged_off : 11280 ≤ length t → (f : File) → read_file total head ≡ ok f → (y : Refusal) →
-      judge.Refused y ≡ told_judged (judged total head f) → (v z : List ℕ) → z ≡ cleared v →
+      Err y ≡ told_judged (judged total head f) → (v z : List ℕ) → z ≡ cleared v →
       drop 11280 v ≡ drop 11280 t → 11280 ≤ length v
-      → (Refused y ≡ told_opened (opened (length t) total head)) × (z ≡ file_after total head t)
+      → (Err y ≡ told_opened (opened (length t) total head)) × (z ≡ file_after total head t)
   unfolding cleared accepted ◌>>=◌ ◌>>◌
   judged_off h f r y j v z c d l =
-      let e : accepted total head ≡ refuse y.number y.place = rw (r, judged-refused (judged total head f) y j) in
+      let e : accepted total head ≡ refuse y.number y.place = rw (r, told-refused _ (judged total head f) y (sym j)) in
       let o = off h y e in
       (o.0, c ∙ pick_no v (replicate 11280 0 ++ drop 11280 v) (le-ltb (length v) 11280 l) ∙ ap (λ (w : List ℕ). replicate 11280 0 ++ w) d ∙ o.1)
 
   -- or accepted
   pub judged-on : 11280 ≤ length t → (f : File) → read_file total head ≡ ok f →
-      judge.Good ≡ told_judged (judged total head f) → (v : List ℕ) →
+      Ok tt ≡ told_judged (judged total head f) → (v : List ℕ) →
       (judged total head f ≡ ok tt → v ≡ file_words total head f ++ drop 11280 t)
-      → (Accepted ≡ told_opened (opened (length t) total head)) × (v ≡ file_after total head t)
-  unfolding accepted ◌>>=◌ ◌>>◌ told_opened left_by
+      → (Ok tt ≡ told_opened (opened (length t) total head)) × (v ≡ file_after total head t)
+  unfolding accepted ◌>>=◌ ◌>>◌ told left_by
   judged-on h f r j v w =
-      let k = judged-good (judged total head f) j in
+      let k = (told-ok _ (judged total head f) tt (sym j)).1 in
       let e : accepted total head ≡ ok f = rw (r, k) in
       (ap told_opened (sym (opened-is h ∙ e)), w k ∙ sym (after_is h ∙ ap (left_by file_words total head t) e))
 
@@ -158,10 +137,10 @@ module _ (total : ℕ) (head t : List ℕ) where
 -- they were; and the others are the places in rising ID order
 pub judged_rowed : (total : ℕ) (head : List ℕ) → total < 18446744073709551616 →
     (e : ℕ) (f : File) (u v x rows : List ℕ) → Read u head total e f x → Rowed u rows → 2816 ≤ length rows → NamedIn f rows →
-    judge.Good ≡ told_judged (judged total head f) → (judged total head f ≡ ok tt → v ≡ file_words total head f ++ x)
+    Ok tt ≡ told_judged (judged total head f) → (judged total head f ≡ ok tt → v ≡ file_words total head f ++ x)
     → (g : File) → read_file total head ≡ ok g → (Resolved v rows g × NamedIn g rows) × InOrder rows g
 judged_rowed total head few e f u v x rows w r many named j l g q =
-    let k = judged-good (judged total head f) j in
+    let k = (told-ok _ (judged total head f) tt (sym j)).1 in
     let y = judged-each total head f k in
     let v₀ = read_here head u x total e f w in
     let follows : Followed u rows head total f =

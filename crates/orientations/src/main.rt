@@ -2,13 +2,10 @@
 // The library says which transforms an orientation means, and the marks of ./draw (crate `canvas`) draw them.
 #![tactic(auto)]
 
+use boxes::types::{IMIR, IROT};
 use canvas::{put, put_number, put_with};
 use facing::{Transform, TransformList};
 use pictures::{Size, Turn};
-
-const IROT: u32 = 0x69726f74;
-
-const IMIR: u32 = 0x696d6972;
 
 // Higher than wide, so that a quarter turn shows.
 fn stored_size() -> Size {
@@ -57,7 +54,6 @@ fn put_letter(l: TransformList) {
         TransformList::None => put_shown(Turn::Stay, Turn::Stay),
         TransformList::One(t) => put_shown(turn_by(t), Turn::Stay),
         TransformList::Two(t, u) => put_shown(turn_by(t), turn_by(u)),
-        TransformList::Refused(_) => {}
     }
 }
 
@@ -81,7 +77,9 @@ fn put_cell(orientation: u32, x: u32, y: u32) {
     );
     put_number(orientation as u64);
     put(b"</text>\n");
-    put_letter(facing::transforms_for(orientation));
+    if let Ok(l) = facing::transforms_for(orientation) {
+        put_letter(l);
+    }
     put_words(orientation);
     canvas::close_group();
 }

@@ -31,12 +31,9 @@ ghost use Rattle.out.specs.Out.{
   out_bodied,
 };
 
-use asked::{FileVerdict, Sized};
-use bodied::Bodied;
+use asked::{Sizes, Verdict};
 use boxes::Refusal;
-use facing::{Oriented, Transform, TransformList};
-use seam::PointsFilled;
-use sourced::Listed;
+use facing::{Transform, TransformList};
 use table::{PropertyIndex, Table};
 use traced::Traced;
 
@@ -48,74 +45,66 @@ pub fn refused_numbers(f: Refusal) -> [u64; 8]
 }
 
 // Item count, primary item.
-pub fn verdict_numbers(v: FileVerdict) -> [u64; 8]
+pub fn verdict_numbers(v: Result<Verdict, Refusal>) -> [u64; 8]
     ensures { (m : Answer Q.Verdict) → v ≡ told_verdict m → result ≡ out_verdict m }
 {
     match v {
-        FileVerdict::Refused(f) => refused_numbers(f),
-        FileVerdict::Accepted { items, primary } => {
-            [0, 0, items as u64, primary.0 as u64, 0, 0, 0, 0]
-        }
+        Err(f) => refused_numbers(f),
+        Ok(a) => [0, 0, a.items as u64, a.primary.0 as u64, 0, 0, 0, 0],
     }
 }
 
 // Reconstructed width and height, output width and height, depth.
-pub fn sized_numbers(s: Sized) -> [u64; 8]
+pub fn sized_numbers(s: Result<Sizes, Refusal>) -> [u64; 8]
     ensures { (m : Answer Q.Sized) → s ≡ told_sized m → result ≡ out_sized m }
 {
     match s {
-        Sized::Refused(f) => refused_numbers(f),
-        Sized::Is {
-            wide,
-            high,
-            output_wide,
-            output_high,
-            depth,
-        } => [
+        Err(f) => refused_numbers(f),
+        Ok(a) => [
             0,
             0,
-            wide as u64,
-            high as u64,
-            output_wide as u64,
-            output_high as u64,
-            depth as u64,
+            a.wide as u64,
+            a.high as u64,
+            a.output_wide as u64,
+            a.output_high as u64,
+            a.depth as u64,
             0,
         ],
     }
 }
 
 // 1 for a pixel or 2 for a fill, then the item, x and y there, and the items passed.
-pub fn traced_numbers(t: Traced) -> [u64; 8]
+pub fn traced_numbers(t: Result<Traced, Refusal>) -> [u64; 8]
     ensures { (m : Answer Q.Found) → t ≡ told_traced m → result ≡ out_traced m }
 {
     match t {
-        Traced::Refused(f) => refused_numbers(f),
-        Traced::Pixel { item, x, y, passed } => {
+        Err(f) => refused_numbers(f),
+        Ok(Traced::Pixel { item, x, y, passed }) => {
             [0, 0, 1, item.0 as u64, x as u64, y as u64, passed as u64, 0]
         }
-        Traced::Fill { item, x, y, passed } => {
+        Ok(Traced::Fill { item, x, y, passed }) => {
             [0, 0, 2, item.0 as u64, x as u64, y as u64, passed as u64, 0]
         }
     }
 }
 
 // How many records were filled.
-pub fn points_numbers(f: PointsFilled) -> [u64; 8]
+pub fn points_numbers(f: Result<u32, Refusal>) -> [u64; 8]
     ensures { (m : Answer ℕ) → f ≡ told_points_filled m → result ≡ out_points m }
 {
     match f {
-        PointsFilled::Refused(x) => refused_numbers(x),
-        PointsFilled::All(count) => [0, 0, count as u64, 0, 0, 0, 0, 0],
+        Err(x) => refused_numbers(x),
+        Ok(records) => [0, 0, records as u64, 0, 0, 0, 0, 0],
     }
 }
 
 // How many IDs were written.
-pub fn listed_numbers(l: Listed) -> [u64; 8]
+pub fn listed_numbers(l: Result<usize, Refusal>) -> [u64; 8]
     ensures { (m : Answer (List ℕ)) → l ≡ told_listed m → result ≡ out_listed m }
 {
     match l {
-        Listed::Refused(f) => refused_numbers(f),
-        Listed::Is(count) => [0, 0, count as u64, 0, 0, 0, 0, 0],
+        Err(f) => refused_numbers(f),
+        Ok(ids) => [0, 0, ids as u64, 0, 0, 0, 0, 0],
     }
 }
 
@@ -138,12 +127,12 @@ pub fn part_numbers(table: &[u32], index: PropertyIndex) -> [u64; 8]
 }
 
 // The number of 1 to 8.
-pub fn oriented_numbers(o: Oriented) -> [u64; 8]
+pub fn oriented_numbers(o: Result<u32, Refusal>) -> [u64; 8]
     ensures { (m : Answer ℕ) → o ≡ told_oriented m → result ≡ out_orientation m }
 {
     match o {
-        Oriented::Refused(f) => refused_numbers(f),
-        Oriented::Is(n) => [0, 0, n as u64, 0, 0, 0, 0, 0],
+        Err(f) => refused_numbers(f),
+        Ok(n) => [0, 0, n as u64, 0, 0, 0, 0, 0],
     }
 }
 
@@ -168,14 +157,14 @@ fn value_in(t: Transform) -> u64
 }
 
 // How many, then kind and value of each.
-pub fn transforms_numbers(l: TransformList) -> [u64; 8]
+pub fn transforms_numbers(l: Result<TransformList, Refusal>) -> [u64; 8]
     ensures { (m : Answer (List Orientation.Transform)) → l ≡ told_transforms m → result ≡ out_transforms m }
 {
     match l {
-        TransformList::Refused(f) => refused_numbers(f),
-        TransformList::None => [0; 8],
-        TransformList::One(a) => [0, 0, 1, kind_number(a), value_in(a), 0, 0, 0],
-        TransformList::Two(a, b) => {
+        Err(f) => refused_numbers(f),
+        Ok(TransformList::None) => [0; 8],
+        Ok(TransformList::One(a)) => [0, 0, 1, kind_number(a), value_in(a), 0, 0, 0],
+        Ok(TransformList::Two(a, b)) => {
             [
                 0,
                 0,
@@ -191,11 +180,11 @@ pub fn transforms_numbers(l: TransformList) -> [u64; 8]
 }
 
 // The length of the body.
-pub fn bodied_numbers(b: Bodied) -> [u64; 8]
+pub fn bodied_numbers(b: Result<usize, Refusal>) -> [u64; 8]
     ensures { (a : Answer (List ℕ)) → b ≡ told_bodied a → result ≡ out_bodied a }
 {
     match b {
-        Bodied::Refused(f) => refused_numbers(f),
-        Bodied::Is(n) => [0, 0, n as u64, 0, 0, 0, 0, 0],
+        Err(f) => refused_numbers(f),
+        Ok(n) => [0, 0, n as u64, 0, 0, 0, 0, 0],
     }
 }

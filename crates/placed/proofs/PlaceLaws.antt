@@ -6,29 +6,27 @@ use mathlib.Core.List.{List}
 use mathlib.Core.Bool.{Bool, true, false, ◌&&◌, not}
 use lib.ListN.{length}
 use lib.Dec.{leb, eqb}
-use borrow.Author.Tests.{leb-true, leb-false, eqb-true, eqb-false, eq-eqb, ne_eqb, le-leb, lt-leb}
+use Rattle.std.specs.Prelude.{Some, None}
+use borrow.Author.Tests.{leb-true, leb-false, eqb-true, eqb-false, eq-eqb, ne_eqb}
 use Rattle.fields.specs.Choice.{pick}
 use Rattle.fields.proofs.FieldLaws.{pick_yes, pick_no}
-use Rattle.fields.proofs.TestLaws.{and_both, and-false, and-true}
+use Rattle.fields.proofs.TestLaws.{and_both}
 use Rattle.boxes.specs.Answer.{◌>>◌, check}
-use Rattle.boxes.specs.Types.{coded}
 use Rattle.contents.specs.Iloc.{Extent, Location}
 use Rattle.contents.specs.Iinf.{Item}
 use Rattle.contents.specs.File.{File}
 use Rattle.rules.specs.Bytes.{all_extents, good_method, good_lengths, made_of_items, chained, names_past}
 use Rattle.rules.specs.Bytes as file
 use Rattle.rules.specs.inner.Direct.{Store, store_of, within}
-use Rattle.rules.specs.Joined.{location_of, item_at}
+use Rattle.rules.specs.Joined.{location_of}
 use Rattle.rules.specs.Places.{Places, file_offset}
 use Rattle.rules.specs.Rules.{has_bytes, rule13-30-14}
-use Rattle.views.specs.inner.View.{TableOf, Judging, record_word, id_of}
+use Rattle.views.specs.inner.View.{TableOf, record_word, id_of}
 use Rattle.views.specs.inner.Told.{fault_of}
 use Rattle.views.proofs.TableLaws.{row_small}
-use Rattle.rules.proofs.DerivationLaws.{nothing_in_lem, nothing-none}
 use Rattle.rules.proofs.ChainLaws.{chained-other}
 use Rattle.rules.proofs.ByteLaws.{within-other}
 use Rattle.placed.specs.inner.Plain.{plain_method, plain_rule}
-use Rattle.placed.proofs.ExtentLaws.{extents-count}
 
 -- leb
 pub same-leb : (a b c d : ℕ) → (a ≤ b → c ≤ d) → (c ≤ d → a ≤ b) → leb a b ≡ leb c d
@@ -71,9 +69,6 @@ module _ {t head : List ℕ} {pl : Places} {f : File} (v : TableOf t head pl f) 
     pub method-other : (m ≡ 2 → ⊥) → made_of_items f (id_of f r) ≡ false
     method-other q = ne_eqb _ 2 (λ z. q (method-read ∙ z))
 
-    pub method-unknown : 1 < m → false ≡ plain_method (location_of f (id_of f r))
-    method-unknown l = rw (← method-read, lt-leb m 1 l) refl
-
     module _ (total : ℕ) where
       pub within-idat : m ≡ 1 → (end : ℕ) → pl.idat + length f.idat ≡ end
           → within (store_of total head f (location_of f (id_of f r)).method) (location_of f (id_of f r)) ≡ all_extents
@@ -86,20 +81,6 @@ module _ {t head : List ℕ} {pl : Places} {f : File} (v : TableOf t head pl f) 
           (λ (e : Extent). leb (file_offset pl (location_of f (id_of f r)) e + e.size) total)
           (location_of f (id_of f r)).extents
       within-file q = within-before total head f pl (location_of f (id_of f r)) total (λ x. absurd (q (method-read ∙ x))) (λ x. refl)
-
-    pub reference-here : Judging t f → m ≤ 1 → (d : ℕ) → (r < 256 → d ≡ record_word t r 10) → eqb d 0 ≡ plain_method (location_of f (id_of f r))
-    reference-here w few d q = rw (← method-read, ← w.reference r h, ← q (row_small v r h), le-leb m 1 few) refl
-
-  -- has_bytes
-  module _ (n : ℕ) (e : r < 256 → n ≡ record_word t r 8) where
-    pub bytes-none : n ≡ 0 → (k : ℕ) → (r < 256 → k ≡ record_word t r 1) → (b : Bool) → b ≡ coded k → not b ≡ has_bytes f (item_at f r)
-    bytes-none z k q b p =
-        let y : b ≡ coded (item_at f r).type = p ∙ ap (λ (x : ℕ). coded x) (q (row_small v r h) ∙ v.type r h) in
-        rw (nothing-none (location_of f (id_of f r)).extents (sym (extents-count v r n h e) ∙ z), ← y) (ap not (sym (and-true b)))
-
-    pub bytes-some : (n ≡ 0 → ⊥) → true ≡ has_bytes f (item_at f r)
-    bytes-some z = sym (ap not (and-false (coded (item_at f r).type) _
-        (λ a b. z (extents-count v r n h e ∙ ap length (nothing_in_lem (location_of f (id_of f r)).extents b)))))
 
 -- plain_rule
 module _ (total : ℕ) (head : List ℕ) (f : File) (i : Item) where
@@ -145,11 +126,11 @@ module _ (total : ℕ) (head : List ℕ) (f : File) (i : Item) where
 
 -- plain_rule: by answers, each needed only where those before it are yes; the lengths apart only where an extent is wrong
 module _ (total : ℕ) (head : List ℕ) (f : File) (i : Item) (good : Bool) (e : good ≡ plain_method (location_of f i.id)) where
-  pub fault_made : made_of_items f i.id ≡ true → 30 ≡ fault_of (plain_rule total head f i)
+  pub fault_made : made_of_items f i.id ≡ true → Some 30 ≡ fault_of (plain_rule total head f i)
   unfolding plain_rule fault_of
   fault_made m = sym (ap fault_of (pick_yes _ _ m))
 
-  pub fault_method : good ≡ false → made_of_items f i.id ≡ false → 13 ≡ fault_of (plain_rule total head f i)
+  pub fault_method : good ≡ false → made_of_items f i.id ≡ false → Some 13 ≡ fault_of (plain_rule total head f i)
   unfolding fault_of check ◌>>◌
   fault_method n m = rw (plain_other total head f i m, ← e, n) refl
 
@@ -163,11 +144,11 @@ module _ (total : ℕ) (head : List ℕ) (f : File) (i : Item) (good : Bool) (e 
         ne_eqb (location_of f i.id).method 2 (λ z. omega arith)
 
     module _ (n : inside ≡ false) (long : Bool) (p : long ≡ good_lengths (location_of f i.id)) where
-      pub fault_length : long ≡ false → 13 ≡ fault_of (plain_rule total head f i)
+      pub fault_length : long ≡ false → Some 13 ≡ fault_of (plain_rule total head f i)
       unfolding fault_of check ◌>>◌
       fault_length z = rw (plain_other total head f i other, ← e, y, ← p, z) refl
 
-      pub fault_outside : long ≡ true → 14 ≡ fault_of (plain_rule total head f i)
+      pub fault_outside : long ≡ true → Some 14 ≡ fault_of (plain_rule total head f i)
       unfolding fault_of check ◌>>◌
       fault_outside z =
           let o : within (store_of total head f (location_of f i.id).method) (location_of f i.id) ≡ false = rw (sym p ∙ z) at (sym q ∙ n) in
@@ -177,10 +158,10 @@ module _ (total : ℕ) (head : List ℕ) (f : File) (i : Item) (good : Bool) (e 
       both-good : (good_lengths (location_of f i.id) ≡ true) × (within (store_of total head f (location_of f i.id).method) (location_of f i.id) ≡ true)
       both-good = and_both (good_lengths (location_of f i.id)) _ (sym q ∙ z)
 
-      pub fault_empty : full ≡ false → 14 ≡ fault_of (plain_rule total head f i)
+      pub fault_empty : full ≡ false → Some 14 ≡ fault_of (plain_rule total head f i)
       unfolding fault_of check ◌>>◌
       fault_empty n = rw (plain_other total head f i other, ← e, y, both-good.0, both-good.1, ← p, n) refl
 
-      pub fault_none : full ≡ true → 0 ≡ fault_of (plain_rule total head f i)
+      pub fault_none : full ≡ true → None ≡ fault_of (plain_rule total head f i)
       unfolding fault_of check ◌>>◌
       fault_none n = rw (plain_other total head f i other, ← e, y, both-good.0, both-good.1, ← p, n) refl

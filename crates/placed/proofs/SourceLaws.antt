@@ -8,7 +8,8 @@ use mathlib.Core.List.{List}
 use mathlib.Core.Bool.{Bool, true, false, ◌&&◌, not}
 use lib.ListN.{length, get_or, drop}
 use lib.Dec.{leb, eqb}
-use borrow.Author.Tests.{leb-true, eqb-true, eqb-false, eq-eqb, ne_eqb, le-leb, lt-leb, not-true, not-false}
+use Rattle.std.specs.Prelude.{Some, None}
+use borrow.Author.Tests.{leb-true, eqb-true, eqb-false, eq-eqb, ne_eqb, not-true, not-false}
 use Rattle.fields.specs.Choice.{pick}
 use Rattle.fields.proofs.FieldLaws.{pick_no}
 use Rattle.fields.proofs.TestLaws.{untrue, and_both}
@@ -26,7 +27,7 @@ use Rattle.rules.proofs.ChainLaws.{named-link, unpast_link}
 use Rattle.rules.proofs.ByteLaws.{named-size, other-size}
 use Rattle.rules.proofs.PlacedLaws.{among-at, extents-each}
 use Rattle.records.specs.inner.Raw.{capped}
-use Rattle.views.specs.inner.View.{TableOf, Judging, record_word, id_of}
+use Rattle.views.specs.inner.View.{TableOf, record_word, id_of}
 use Rattle.views.specs.inner.Told.{fault_of}
 use Rattle.views.proofs.TableLaws.{row_small}
 use Rattle.views.proofs.ViewLaws.{offset_made, capped_same}
@@ -167,14 +168,8 @@ abbrev pub InFrom : ℕ → List ℕ → File → ℕ → ℕ → Type 0
 InFrom total head f id j = all_extents (in_source total head f id) (location_of f id).extents
     ≡ all_extents (in_source total head f id) (drop j (location_of f id).extents)
 
-pub sources-none : (total : ℕ) (head : List ℕ) (f : File) (id j : ℕ) → j ≡ 0 → InFrom total head f id j
-sources-none total head f id j e = rw e
-
 module _ {t head : List ℕ} {pl : Places} {f : File} (w : TableOf t head pl f) (r : ℕ) (h : r < length f.items)
     (first count : ℕ) (a : r < 256 → first ≡ record_word t r 7) (b : r < 256 → count ≡ record_word t r 8) where
-  pub row_room : 512 < first + count → ⊥
-  row_room q = omega (arith, a (row_small w r h), b (row_small w r h), w.extent-count r h, w.extent-room r h)
-
   pub row_is : (method past : ℕ) → (r < 256 → method ≡ record_word t r 9) → past ≡ first + count → RowIs t r first past method
   row_is method past m e = (a (row_small w r h), e ∙ ap (λ (n : ℕ). first + n) (b (row_small w r h)), m (row_small w r h))
 
@@ -219,28 +214,6 @@ module _ {t v sums head : List ℕ} {pl : Places} {idat : ℕ} {f : File} (w : S
         (source_before w total r (e - first) h k short inside x o m fits its_end
         (place ∙ ap (offset_at t) its_number) (long ∙ ap (size_at t) its_number) q))
 
--- good_method and good_lengths, by the words of a record
-module _ {t head : List ℕ} {pl : Places} {f : File} (v : TableOf t head pl f) (r : ℕ) (h : r < length f.items)
-    (m : ℕ) (e : r < 256 → m ≡ record_word t r 9) where
-  read : m ≡ (location_of f (id_of f r)).method
-  read = e (row_small v r h) ∙ v.method r h
-
-  abbrev long : Bool
-  long = good_lengths (location_of f (id_of f r))
-
-  pub lengthy_method : 2 < m → false ≡ (good_method (location_of f (id_of f r)) && long)
-  lengthy_method q = rw (← read, lt-leb m 2 q) refl
-
-  module _ (w : Judging t f) (few : m ≤ 2) (d : ℕ) (q : r < 256 → d ≡ record_word t r 10) where
-    refers : d ≡ (location_of f (id_of f r)).reference
-    refers = q (row_small v r h) ∙ w.reference r h
-
-    pub lengthy_away : (d ≡ 0 → ⊥) → false ≡ (good_method (location_of f (id_of f r)) && long)
-    lengthy_away z = rw (← read, le-leb m 2 few, ← refers, ne_eqb d 0 z) refl
-
-    pub lengthy_here : d ≡ 0 → (b : Bool) → b ≡ long → b ≡ (good_method (location_of f (id_of f r)) && long)
-    lengthy_here z b y = y ∙ rw (← read, le-leb m 2 few, ← refers, eq-eqb d 0 z) refl
-
 -- 14: by answers
 module _ (p w b : Bool) where
   pub past-names : (n : Bool) → n ≡ p → n ≡ true → true ≡ not (not p && (w && b))
@@ -256,12 +229,12 @@ module _ (p w b : Bool) where
 -- rule13-30-14: by answers
 module _ (total : ℕ) (head : List ℕ) (f : File) (i : Item) (good : Bool)
     (e : good ≡ (good_method (location_of f i.id) && good_lengths (location_of f i.id))) where
-  pub linked-method : good ≡ false → 13 ≡ fault_of (rule13-30-14 total head f i)
+  pub linked-method : good ≡ false → Some 13 ≡ fault_of (rule13-30-14 total head f i)
   unfolding rule13-30-14 fault_of check ◌>>◌
   linked-method n = rw (← e, n) refl
 
   module _ (y : good ≡ true) (endless : Bool) (q : endless ≡ not (chained 8 f i.id)) where
-    pub linked_endless : endless ≡ true → 30 ≡ fault_of (rule13-30-14 total head f i)
+    pub linked_endless : endless ≡ true → Some 30 ≡ fault_of (rule13-30-14 total head f i)
     unfolding rule13-30-14 fault_of check ◌>>◌
     linked_endless n = rw (← e, y, not-true (chained 8 f i.id) (sym q ∙ n)) refl
 
@@ -275,10 +248,10 @@ module _ (total : ℕ) (head : List ℕ) (f : File) (i : Item) (good : Bool)
       kept = not (names_past 8 f i.id) && (file.within total head f i.id && has_bytes f i)
 
       module _ (past : Bool) (p : past ≡ not kept) where
-        pub linked-past : past ≡ true → 14 ≡ fault_of (rule13-30-14 total head f i)
+        pub linked-past : past ≡ true → Some 14 ≡ fault_of (rule13-30-14 total head f i)
         unfolding rule13-30-14 fault_of check ◌>>◌
         linked-past z = rw (← e, y, not-false (chained 8 f i.id) (sym q ∙ n), not-true kept (sym p ∙ z)) refl
 
-        pub linked-none : past ≡ false → 0 ≡ fault_of (rule13-30-14 total head f i)
+        pub linked-none : past ≡ false → None ≡ fault_of (rule13-30-14 total head f i)
         unfolding rule13-30-14 fault_of check ◌>>◌
         linked-none z = rw (← e, y, not-false (chained 8 f i.id) (sym q ∙ n), not-false kept (sym p ∙ z)) refl

@@ -16,7 +16,6 @@ ghost use Rattle.rules.specs.Rules.{good_primary, has_bytes, rule13-30-14};
 ghost use Rattle.views.specs.inner.View.{TableOf, Judging, id_of};
 ghost use Rattle.views.specs.inner.Told.{fault_of};
 
-use records::FoundRow;
 use table::{ItemId, ItemRow};
 
 // Where the bytes end that an item's extents may lie in, as places of the file. What else ends at a place of its own is
@@ -33,14 +32,10 @@ pub struct Ends {
 pub fn good_primary(table: &[u32]) -> bool
     ensures { (head : List ℕ) (pl : Places) (f : File) → TableOf table.now head pl f → result ≡ good_primary f }
 {
-    let found = views::row_named(table, ItemId(table::word(table, 5)), ItemRow(0));
-    match found {
-        FoundRow::Nothing => false,
-        FoundRow::At(row) => {
-            if views::is_image(views::type_of(table, row)) {
-                return views::record_word(table, row, 2) == 0;
-            }
-            false
+    match views::row_named(table, ItemId(table::word(table, 5)), ItemRow(0)) {
+        None => false,
+        Some(row) => {
+            views::is_image(views::type_of(table, row)) && views::record_word(table, row, 2) == 0
         }
     }
 }
@@ -51,13 +46,10 @@ fn has_lengths(table: &[u32], row: ItemRow) -> bool
         row.0 < length f.items → result ≡ good_lengths (location_of f (id_of f row.0)) }
 {
     let n = views::record_word(table, row, 8) as usize;
-    let mut j: usize = 0;
-    while j < n {
-        let e = views::extent_of(table, row, j);
-        if e.size == 0 {
+    for j in 0..n {
+        if views::extent_of(table, row, j).size == 0 {
             return false;
         }
-        j += 1;
     }
     true
 }
@@ -71,21 +63,11 @@ fn lie_before(table: &[u32], row: ItemRow, end: u64) -> bool
         (location_of f (id_of f row.0)).extents) }
 {
     let n = views::record_word(table, row, 8) as usize;
-    let mut j: usize = 0;
-    while j < n {
+    for j in 0..n {
         let e = views::extent_of(table, row, j);
-        let offset = e.offset;
-        let size = e.size;
-        if size == 0 {
+        if e.size == 0 || end < e.offset || end - e.offset < e.size {
             return false;
         }
-        if end < offset {
-            return false;
-        }
-        if end - offset < size {
-            return false;
-        }
-        j += 1;
     }
     true
 }
@@ -95,10 +77,7 @@ fn good_method(table: &[u32], row: ItemRow) -> bool
     ensures { (head : List ℕ) (pl : Places) (f : File) → TableOf table.now head pl f →
         Judging table.now f → row.0 < length f.items → result ≡ plain_method (location_of f (id_of f row.0)) }
 {
-    if 1 < views::record_word(table, row, 9) {
-        return false;
-    }
-    views::record_word(table, row, 10) == 0
+    views::record_word(table, row, 9) <= 1 && views::record_word(table, row, 10) == 0
 }
 
 // Whether each extent of an item has a length and ends where its source does or before.
@@ -120,35 +99,32 @@ fn has_bytes(table: &[u32], row: ItemRow) -> bool
     ensures { (head : List ℕ) (pl : Places) (f : File) → TableOf table.now head pl f →
         row.0 < length f.items → result ≡ has_bytes f (item_at f row.0) }
 {
-    if views::record_word(table, row, 8) == 0 {
-        return !views::is_coded(views::type_of(table, row));
-    }
-    true
+    views::record_word(table, row, 8) != 0 || !views::is_coded(views::type_of(table, row))
 }
 
-// 13 before 14 for the item in a row, 0 where neither is given; 30 for one that is made of other items, which is asked with
+// 13 before 14 for the item in a row, none where neither is given; 30 for one that is made of other items, which is asked with
 // their levels (linked_fault). Only where an extent is wrong are the lengths gone over once more.
-pub fn place_fault(table: &[u32], row: ItemRow, ends: Ends) -> u32
+pub fn place_fault(table: &[u32], row: ItemRow, ends: Ends) -> Option<u32>
     ensures { (head : List ℕ) (pl : Places) (f : File) → TableOf table.now head pl f →
         Judging table.now f → pl.idat + length f.idat ≡ ends.idat → row.0 < length f.items →
         result ≡ fault_of (plain_rule ends.total head f (item_at f row.0)) }
 {
     if !good_method(table, row) {
         if views::record_word(table, row, 9) == 2 {
-            return 30;
+            return Some(30);
         }
-        return 13;
+        return Some(13);
     }
     if !lies_within(table, row, ends) {
         if has_lengths(table, row) {
-            return 14;
+            return Some(14);
         }
-        return 13;
+        return Some(13);
     }
     if !has_bytes(table, row) {
-        return 14;
+        return Some(14);
     }
-    0
+    None
 }
 
 // The sum of the lengths of a row that an extent names.
@@ -190,17 +166,12 @@ fn lie_in_sources(table: &[u32], rows: &[u32], sums: &[u64; 256], row: ItemRow, 
     if 512 < past {
         return false;
     }
-    let mut e = first;
-    while e < past {
+    for e in first..past {
         let end = end_of(rows, sums, ends, method, e);
         let offset = linking::offset_at(table, e);
-        if end < offset {
+        if end < offset || end - offset < linking::size_at(table, e) {
             return false;
         }
-        if end - offset < linking::size_at(table, e) {
-            return false;
-        }
-        e += 1;
     }
     true
 }
@@ -221,13 +192,9 @@ fn is_past(
         Chained f (id_of f row.0) → result ≡ not (not (names_past 8 f (id_of f row.0)) &&
         (Bytes.within ends.total head f (id_of f row.0) && has_bytes f (item_at f row.0))) }
 {
-    if linking::names_past(links, row) {
-        return true;
-    }
-    if !lie_in_sources(table, rows, sums, row, ends) {
-        return true;
-    }
-    !has_bytes(table, row)
+    linking::names_past(links, row)
+        || !lie_in_sources(table, rows, sums, row, ends)
+        || !has_bytes(table, row)
 }
 
 // Whether an item has a method that there is, its bytes in this file, and extents that all have a length.
@@ -236,16 +203,12 @@ fn is_lengthy(table: &[u32], row: ItemRow) -> bool
         Judging table.now f → row.0 < length f.items →
         result ≡ (good_method (location_of f (id_of f row.0)) && good_lengths (location_of f (id_of f row.0))) }
 {
-    if 2 < views::record_word(table, row, 9) {
-        return false;
-    }
-    if views::record_word(table, row, 10) != 0 {
-        return false;
-    }
-    has_lengths(table, row)
+    views::record_word(table, row, 9) <= 2
+        && views::record_word(table, row, 10) == 0
+        && has_lengths(table, row)
 }
 
-// 13, 30, 14 for the item in a row, 0 where none is given, once the levels of all rows are known. (It says of every item what the
+// 13, 30, 14 for the item in a row, none where none is given, once the levels of all rows are known. (It says of every item what the
 // rules say. place_fault is the same for files that have no levels, and a function of its own for their speed.)
 pub fn linked_fault(
     table: &[u32],
@@ -254,7 +217,7 @@ pub fn linked_fault(
     sums: &[u64; 256],
     row: ItemRow,
     ends: Ends,
-) -> u32
+) -> Option<u32>
     requires { 11280 ≤ length table.now }
     ensures { (head : List ℕ) (pl : Places) (f : File) →
         SourcesAre table.now rows.now sums.now head pl ends.idat f →
@@ -263,13 +226,13 @@ pub fn linked_fault(
         result ≡ fault_of (rule13-30-14 ends.total head f (item_at f row.0)) }
 {
     if !is_lengthy(table, row) {
-        return 13;
+        return Some(13);
     }
     if linking::is_endless(links, row) {
-        return 30;
+        return Some(30);
     }
     if is_past(table, rows, links, sums, row, ends) {
-        return 14;
+        return Some(14);
     }
-    0
+    None
 }

@@ -5,6 +5,7 @@ use native.Mathlib.Decide.{dec_le}
 use mathlib.Core.Path.{◌≡◌, refl, sym, ◌∙◌}
 use mathlib.Core.List.{List}
 use mathlib.Core.Bool.{Bool, true, false}
+use mathlib.Core.Logic.{◌⊎◌, inl, inr}
 use lib.ListN.{length, drop}
 use lib.Dec.{eqb}
 use borrow.Author.Tests.{ne_eqb, eqb-true, eqb-false}
@@ -15,6 +16,7 @@ use Rattle.forms.specs.Form.{give, field, whole, ◌>>=◌}
 use Rattle.forms.proofs.StepLaws.{reads, over, whole_reads, reads_got, reads_refused, reads_bind, reads_field, reads_short, reads_give, over-end, over-left}
 use Rattle.contents.specs.Full.{full, upto}
 use Rattle.contents.specs.Ipco.{ispe_form, bytes_form, good_content}
+use Rattle.contents.specs.declared.Full as code
 use Rattle.contents.proofs.FullLaws.{FullHere}
 
 -- bytes-form
@@ -39,7 +41,7 @@ module _ (p : ℕ) (s : List ℕ) where
   ispe_gone n q e = rw (whole_reads, reads_bind) (reads_refused (full (upto 0)) p s _ n q e)
 
   -- behind version and flags
-  module _ (v f : ℕ) (h : FullHere (upto 0) p s v f) where
+  module _ (v : code.Full) (h : FullHere (upto 0) p s v) where
     sizes-read : whole ispe_form p s ≡ reads (field 4 >>= (λ w. field 4 >>= (λ u. give tt))) p (drop 4 s) (over p)
     unfolding ispe_form
     sizes-read = rw (whole_reads, reads_bind) (reads_got (full (upto 0)) p s _ _ _ h.read)
@@ -79,13 +81,10 @@ module _ (k p : ℕ) (s : List ℕ) where
   unfolding good_content pick
   held-clap e = rw e
 
-  pub held-irot : k ≡ irot → good_content k p s ≡ whole (bytes_form 1) p s
+  pub held-turned : (k ≡ imir) ⊎ (k ≡ irot) → good_content k p s ≡ whole (bytes_form 1) p s
   unfolding good_content pick
-  held-irot e = rw e
-
-  pub held-imir : k ≡ imir → good_content k p s ≡ whole (bytes_form 1) p s
-  unfolding good_content pick
-  held-imir e = rw e
+  held-turned (inl e) = rw e
+  held-turned (inr e) = rw e
 
   pub held-other : (k ≡ ispe → ⊥) → (k ≡ clap → ⊥) → (k ≡ irot → ⊥) → (k ≡ imir → ⊥) → good_content k p s ≡ ok tt
   unfolding good_content pick

@@ -4,16 +4,17 @@ use native.Mathlib.Omega.{arith}
 use mathlib.Core.Path.{◌≡◌, refl, sym, ap, ◌∙◌}
 use mathlib.Core.List.{List, [], ◌∷◌, ◌++◌, append-nil}
 use lib.ListN.{length, take, drop, length-append}
+use Rattle.std.specs.Prelude.{Ok, Err}
 use Rattle.boxes.specs.Answer.{Answer, ◌>>=◌}
+use Rattle.boxes.specs.Told.{told}
 use Rattle.boxes.specs.Box.{head_of, kind_of, flat}
 use Rattle.boxes.specs.Children.{contain}
 use Rattle.boxes.specs.inner.Header.{child_at}
 use Rattle.boxes.specs.declared.Child.TheVariants as child
 use Rattle.boxes.proofs.ContainLaws.{children_from, stood, from-box, from-bad, from_spare, from_end}
 use Rattle.contents.specs.Iprp.{any_box}
-use Rattle.properties.specs.inner.Steps.{level_of, told_level}
+use Rattle.properties.specs.inner.Steps.{level_of}
 use Rattle.properties.specs.declared.Level.{Level}
-use Rattle.properties.specs.declared.LevelRead.TheVariants as level
 
 -- flat
 pub flat-more : (bs : List (List ℕ)) (b : List ℕ) → length (flat (bs ++ (b ∷ []))) ≡ length (flat bs) + length b
@@ -24,7 +25,15 @@ flat-more (a ∷ bs) b = let e = flat-more bs b in rw (length-append, length-app
 -- level_of: one child more, as the first, the second or another
 first : (bs : List (List ℕ)) (b : List ℕ) (kind body end : ℕ) → (level_of bs).count ≡ 0 → kind_of b ≡ kind →
     length (flat bs) + head_of b ≡ body → length (flat bs) + length b ≡ end
-    → record { count = 1; kind0 = kind; body0 = body; end0 = end; kind1 = 0; body1 = 0; end1 = 0 } ≡ level_of (bs ++ (b ∷ []))
+    → record {
+      count = 1;
+      kind0 = kind;
+      body0 = body;
+      end0 = end;
+      kind1 = (level_of bs).kind1;
+      body1 = (level_of bs).body1;
+      end1 = (level_of bs).end1;
+    } ≡ level_of (bs ++ (b ∷ []))
 unfolding level_of flat
 first [] b kind body end c k h z =
     let i : body ≡ head_of b = omega arith in
@@ -75,8 +84,16 @@ another (a ∷ d ∷ e ∷ bs) b n m = refl
 -- the same of the code's level l
 module _ (l : Level) (kind body end : ℕ) (bs : List (List ℕ)) (b : List ℕ) (is : l ≡ level_of bs) (k : kind_of b ≡ kind)
     (h : length (flat bs) + head_of b ≡ body) (z : length (flat bs) + length b ≡ end) where
-  pub level-first : l.count ≡ 0 → record { count = 1; kind0 = kind; body0 = body; end0 = end; kind1 = 0; body1 = 0; end1 = 0 } ≡ level_of (bs ++ (b ∷ []))
-  level-first c = first bs b kind body end (ap (λ (m : Level). m.count) (sym is) ∙ c) k h z
+  pub level-first : l.count ≡ 0 → record {
+    count = 1;
+    kind0 = kind;
+    body0 = body;
+    end0 = end;
+    kind1 = l.kind1;
+    body1 = l.body1;
+    end1 = l.end1;
+  } ≡ level_of (bs ++ (b ∷ []))
+  level-first c = rw is (first bs b kind body end (ap (λ (m : Level). m.count) (sym is) ∙ c) k h z)
 
   pub level-second : l.count ≡ 1 → record {
     count = 2;
@@ -113,17 +130,17 @@ module _ (s : List ℕ) (place base : ℕ) where
       record { boxes = []; size = refl; here = omega arith; same = ap (λ (b : ℕ). contain any_box place b [] s) e; level-is = refl }
 
   module _ (l : Level) (at : ℕ) (so : LevelSo l at) where
-    pub level-bad : child_at s at ≡ child.Bad → level.Refused (record { number = 3; place = base + at }) ≡ told_level level_answer
-    unfolding told_level
-    level-bad e = sym (ap told_level (so.same ∙ from-bad s at any_box place base so.boxes e))
+    pub level-bad : child_at s at ≡ child.Bad → Err (record { number = 3; place = base + at }) ≡ told level_of level_answer
+    unfolding told
+    level-bad e = sym (ap (told level_of) (so.same ∙ from-bad s at any_box place base so.boxes e))
 
-    pub level_spare : child_at s at ≡ child.Spare → level.Refused (record { number = 3; place = place }) ≡ told_level level_answer
-    unfolding told_level
-    level_spare e = sym (ap told_level (so.same ∙ from_spare s at any_box place base so.boxes e))
+    pub level_spare : child_at s at ≡ child.Spare → Err (record { number = 3; place = place }) ≡ told level_of level_answer
+    unfolding told
+    level_spare e = sym (ap (told level_of) (so.same ∙ from_spare s at any_box place base so.boxes e))
 
-    pub level-end : child_at s at ≡ child.End → level.Is l ≡ told_level level_answer
-    unfolding told_level
-    level-end e = ap level.Is so.level-is ∙ sym (ap told_level (so.same ∙ from_end s at any_box place base so.boxes e))
+    pub level-end : child_at s at ≡ child.End → Ok l ≡ told level_of level_answer
+    unfolding told
+    level-end e = ap Ok so.level-is ∙ sym (ap (told level_of) (so.same ∙ from_end s at any_box place base so.boxes e))
 
     -- one more
     module _ (kind body end : ℕ) (e : child_at s at ≡ child.Whole kind body end) where

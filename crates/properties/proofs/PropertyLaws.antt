@@ -14,6 +14,9 @@ use Rattle.boxes.specs.Children.{contain}
 use Rattle.boxes.specs.inner.Header.{child_at}
 use Rattle.boxes.specs.declared.Child.TheVariants as child
 use Rattle.boxes.specs.declared.Refusal.{Refusal}
+use Rattle.std.specs.Prelude.{Result, Ok, Err}
+use Rattle.boxes.specs.Told.{told}
+use Rattle.boxes.proofs.ToldLaws.{told-ok, told-refused}
 use Rattle.boxes.proofs.AnswerLaws.{then_ok, ok-then, check-ok, ok_inj}
 use Rattle.boxes.proofs.ContainLaws.{children_from, Stood, stood, from-box, from-bad, from_spare, from_end, stood_body}
 use Rattle.contents.specs.Ipco.{good_content, property_step}
@@ -24,28 +27,13 @@ use Rattle.records.specs.inner.Stage.{with_properties}
 use Rattle.records.proofs.RawLaws.{raw-property}
 use Rattle.associations.specs.inner.Told.{KeptIds}
 use Rattle.associations.proofs.KeepLaws.{kept_self, kept_then, sets-high}
-use Rattle.properties.specs.inner.Steps.{told_checked, next_property, AddedIs, told_properties, PropertiesLeft}
-use Rattle.properties.specs.declared.Checked.{Checked}
-use Rattle.properties.specs.declared.Checked.TheVariants as checked
-use Rattle.properties.specs.declared.PropertiesRead.{PropertiesRead}
-use Rattle.properties.specs.declared.PropertiesRead.TheVariants as properties
+use Rattle.properties.specs.inner.Steps.{next_property, AddedIs, PropertiesLeft}
 use Rattle.properties.proofs.LevelLaws.{flat-more}
 
 -- sets, as the code's stores
 module _ (t : List ℕ) where
   pub four_stores : (a b w x y z : ℕ) → a ≡ b → set (set (set (set t a w) (a + 1) x) (a + 2) y) (a + 3) z ≡ sets t b (w ∷ x ∷ y ∷ z ∷ [])
   four_stores a b w x y z e = rw (← e) (simp towards_suc)
-
--- told_checked: what the code's value says
-checked_good : (m : Answer (Unit {0})) → checked.Good ≡ told_checked m → m ≡ ok tt
-unfolding told_checked
-checked_good (ok u) e = refl
-checked_good (refuse n p) e = let z : ◌≡◌ {A = ℕ} 0 1 = cc in absurd (omega arith)
-
-checked_refused : (m : Answer (Unit {0})) (x : Refusal) → checked.Refused x ≡ told_checked m → m ≡ refuse x.number x.place
-unfolding told_checked
-checked_refused (ok u) x e = let z : ◌≡◌ {A = ℕ} 0 1 = cc in absurd (omega arith)
-checked_refused (refuse n p) x e = let k : x ≡ record { number = n; place = p } = cc in rw k
 
 -- _>>_
 then-then : {A B C : Type 0} (m : Answer A) (k : Answer B) (l : Answer C) → ((m >> k) >> l) ≡ (m >> (k >> l))
@@ -68,23 +56,24 @@ next_few n kind place s e = let x = then_ok (check 9 place (ltb n 256)) (good_co
 
 -- the code's answer about one property
 module _ (n kind place size : ℕ) (s t : List ℕ) where
-  abbrev Adds : List ℕ → Checked → Type 0
+  abbrev Adds : List ℕ → Result (Unit {0}) Refusal → Type 0
   Adds u r = AddedIs (next_property n kind place s) n kind place size t u r
 
-  pub added-many : n ≡ 256 → Adds t (checked.Refused (record { number = 9; place = place }))
+  pub added-many : n ≡ 256 → Adds t (Err (record { number = 9; place = place }))
   added-many e = (next_many n kind place s e, refl)
 
-  module _ (room : n ≤ 256) (more : n ≡ 256 → ⊥) (r : Checked) (is : r ≡ told_checked (good_content kind place s)) where
+  module _ (room : n ≤ 256) (more : n ≡ 256 → ⊥) where
     few : n < 256
     few = omega (arith, more)
 
-    pub added-bad : (x : Refusal) → r ≡ checked.Refused x → Adds t (checked.Refused x)
-    added-bad x e = (next_held n kind place s few ∙ checked_refused _ x (sym e ∙ is), refl)
+    pub added-bad : (x : Refusal) → Err x ≡ told (λ u. u) (good_content kind place s) → Adds t (Err x)
+    added-bad x e = (next_held n kind place s few ∙ told-refused _ _ x (sym e), refl)
 
-    pub added-good : r ≡ checked.Good → (u : List ℕ) → u ≡ sets t (4112 + 4 * (n + 1 - 1)) (kind ∷ place ∷ size ∷ 0 ∷ []) → Adds u checked.Good
+    pub added-good : Ok tt ≡ told (λ u. u) (good_content kind place s) → (u : List ℕ) →
+        u ≡ sets t (4112 + 4 * (n + 1 - 1)) (kind ∷ place ∷ size ∷ 0 ∷ []) → Adds u (Ok tt)
     added-good e u q =
         let i : 4112 + 4 * (n + 1 - 1) ≡ 4112 + 4 * n = omega arith in
-        (next_held n kind place s few ∙ checked_good _ (sym e ∙ is), q ∙ ap (λ (k : ℕ). sets t k (kind ∷ place ∷ size ∷ 0 ∷ [])) i)
+        (next_held n kind place s few ∙ (told-ok _ _ tt (sym e)).1, q ∙ ap (λ (k : ℕ). sets t k (kind ∷ place ∷ size ∷ 0 ∷ [])) i)
 
 -- property
 module _ (at : ℕ) (before : List (List ℕ)) (b : List ℕ) where
@@ -147,27 +136,27 @@ module _ (s : List ℕ) (place base : ℕ) (t₀ : List ℕ) where
       }
 
   -- what the code answers and leaves
-  abbrev Tells : PropertiesRead → List ℕ → Type 0
-  Tells r u = (r ≡ told_properties properties_answer) × PropertiesLeft s place base t₀ u
+  abbrev Tells : Result ℕ Refusal → List ℕ → Type 0
+  Tells r u = (r ≡ told length properties_answer) × PropertiesLeft s place base t₀ u
 
   module _ (t : List ℕ) (at n : ℕ) (so : PropertiesSo t at n) where
-    refused : (a b : ℕ) → children_from property_step place base s at so.boxes ≡ refuse a b → Tells (properties.Refused (record { number = a; place = b })) t
-    unfolding told_properties
+    refused : (a b : ℕ) → children_from property_step place base s at so.boxes ≡ refuse a b → Tells (Err (record { number = a; place = b })) t
+    unfolding told
     refused a b e =
         let q = so.same ∙ e in
-        (sym (ap told_properties q), record { same = so.kept; told = λ pl f x ps start bd none g is. let z : ◌≡◌ {A = ℕ} 0 1 = cc in absurd (omega arith) })
+        (sym (ap (told length) q), record { same = so.kept; told = λ pl f x ps start bd none g is. let z : ◌≡◌ {A = ℕ} 0 1 = cc in absurd (omega arith) })
 
-    pub properties-bad : child_at s at ≡ child.Bad → Tells (properties.Refused (record { number = 3; place = base + at })) t
+    pub properties-bad : child_at s at ≡ child.Bad → Tells (Err (record { number = 3; place = base + at })) t
     properties-bad e = refused 3 (base + at) (from-bad s at property_step place base so.boxes e)
 
-    pub properties_spare : child_at s at ≡ child.Spare → Tells (properties.Refused (record { number = 3; place = place })) t
+    pub properties_spare : child_at s at ≡ child.Spare → Tells (Err (record { number = 3; place = place })) t
     properties_spare e = refused 3 place (from_spare s at property_step place base so.boxes e)
 
-    pub properties-end : child_at s at ≡ child.End → Tells (properties.Properties n) t
-    unfolding told_properties
+    pub properties-end : child_at s at ≡ child.End → Tells (Ok n) t
+    unfolding told
     properties-end e =
         let q = so.same ∙ from_end s at property_step place base so.boxes e in (
-          ap properties.Properties (sym so.count) ∙ sym (ap told_properties q),
+          ap Ok (sym so.count) ∙ sym (ap (told length) q),
           record {
             same = so.kept;
             told = λ pl f x ps start bd none g is. so.told pl f x start bd none is ∙
@@ -191,8 +180,7 @@ module _ (s : List ℕ) (place base : ℕ) (t₀ : List ℕ) where
       step m h = from-box s at property_step place base so.boxes kind body end e ∙
           ap (λ (a : Answer (List (List ℕ))). a >>= (λ z. children_from property_step place base s end z)) h
 
-      module _ (r : Checked) (u : List ℕ) (is : AddedIs
-          (next_property n kind (base + at) (take (end - body) (drop body s))) n kind (base + at) (end - at) t u r) where
+      module _ (u : List ℕ) where
         next_is : (m : Answer (Unit {0})) → next_property n kind (base + at) (take (end - body) (drop body s)) ≡ m →
             next_property (length so.boxes) (kind_of b) (base + at) (body_of b) ≡ m
         next_is m h =
@@ -201,19 +189,17 @@ module _ (s : List ℕ) (place base : ℕ) (t₀ : List ℕ) where
             ∙ ap (next_property n kind (base + at)) (sym (stood_body s at kind body end there))
             ∙ h
 
-        pub properties-held : (x : Refusal) → r ≡ checked.Refused x → Tells (properties.Refused x) u
+        pub properties-held : (x : Refusal) →
+            AddedIs (next_property n kind (base + at) (take (end - body) (drop body s))) n kind (base + at) (end - at) t u (Err x) → Tells (Err x) u
         unfolding ◌>>=◌
-        properties-held x q =
-            let a : AddedIs (next_property n kind (base + at) (take (end - body) (drop body s))) n kind (base + at) (end - at) t u (checked.Refused x) =
-            subst (AddedIs _ n kind (base + at) (end - at) t u) q is in
+        properties-held x a =
             let w = refused x.number x.place (step _ (property-bad (base + at) so.boxes b _ _ (next_is _ a.0))) in
             (w.0, subst (PropertiesLeft s place base t₀) (sym a.1) w.1)
 
-        pub properties-more : r ≡ checked.Good → PropertiesSo u end (n + 1)
+        pub properties-more : AddedIs (next_property n kind (base + at) (take (end - body) (drop body s))) n kind (base + at) (end - at) t u (Ok tt) →
+            PropertiesSo u end (n + 1)
         unfolding ◌>>=◌
-        properties-more q =
-            let a : AddedIs (next_property n kind (base + at) (take (end - body) (drop body s))) n kind (base + at) (end - at) t u checked.Good =
-            subst (AddedIs _ n kind (base + at) (end - at) t u) q is in
+        properties-more a =
             let w = there in
             let z = so.size in
             let c = so.count in

@@ -9,7 +9,7 @@ use Rattle.boxes.specs.Answer.{Answer, ok, refuse, ◌>>◌}
 use Rattle.boxes.specs.Types.{hdlr, pitm, iinf, iloc, iprp}
 use Rattle.boxes.specs.Children.{place_of}
 use Rattle.boxes.specs.declared.Refusal.{Refusal}
-use Rattle.boxes.proofs.AnswerLaws.{ok_bind}
+use Rattle.boxes.proofs.AnswerLaws.{ok_bind, refuse_bind}
 use Rattle.forms.specs.Form.{whole, front}
 use Rattle.contents.specs.Hdlr.{hdlr_form}
 use Rattle.contents.specs.Pitm.{pitm_form}
@@ -27,7 +27,6 @@ use Rattle.records.proofs.RawLaws.{raw-located, raw-derived}
 use Rattle.reading.specs.inner.Parts.{kids, Before, LastBefore, content_of, begin_of, from_handler, from_items, from_locations, from_shown, from_references}
 use Rattle.reading.proofs.BoundLaws.{iloc-few, shown-few}
 use Rattle.reading.proofs.StageLaws.{ids_are}
-use Rattle.reading.proofs.ToldLaws.{refuse_bind}
 
 -- Before: what a stage asks of the table
 module _ (s : List ℕ) (at n : ℕ) (f : File) (x t : List ℕ) (b : Before s at n f x t) where
@@ -57,7 +56,7 @@ module _ (at : ℕ) (bs : List (List ℕ)) (primary : ℕ) (is : List Item) (ls 
 
   pub shown_gone : (r : Refusal) → said ≡ refuse r.number r.place → from_shown at bs primary is ls ≡ refuse r.number r.place
   unfolding from_shown
-  shown_gone r e = refuse_bind _ _ r e
+  shown_gone r e = refuse_bind _ _ _ e _
 
   pub shown-on : (v : IprpContent) → said ≡ ok v → from_shown at bs primary is ls ≡ from_references at bs primary is ls v
   unfolding from_shown
@@ -107,7 +106,7 @@ module _ (at : ℕ) (bs : List (List ℕ)) (primary : ℕ) (is : List Item) wher
 
   pub locations_gone : (r : Refusal) → located ≡ refuse r.number r.place → from_locations at bs primary is ≡ refuse r.number r.place
   unfolding from_locations
-  locations_gone r e = refuse_bind _ _ r e
+  locations_gone r e = refuse_bind _ _ _ e _
 
   pub locations-on : (ls : List Location) → located ≡ ok ls → from_locations at bs primary is ≡ from_shown at bs primary is ls
   unfolding from_locations
@@ -142,7 +141,7 @@ module _ (at : ℕ) (bs : List (List ℕ)) where
   pub items_gone : (primary : ℕ) (r : Refusal) → items (place_of iinf at bs) (begin_of at bs iinf) (content_of at bs iinf)
       ≡ refuse r.number r.place → from_items at bs primary ≡ refuse r.number r.place
   unfolding from_items
-  items_gone primary r e = refuse_bind _ _ r e
+  items_gone primary r e = refuse_bind _ _ _ e _
 
   pub items-on : (primary : ℕ) (is : List Item) → items (place_of iinf at bs) (begin_of at bs iinf) (content_of at bs iinf)
       ≡ ok is → from_items at bs primary ≡ from_locations at bs primary is
@@ -158,7 +157,7 @@ module _ (at : ℕ) (bs : List (List ℕ)) where
       whole pitm_form (place_of pitm at bs) (content_of at bs pitm) ≡ refuse r.number r.place →
       from_handler at bs ≡ refuse r.number r.place
   unfolding from_handler ◌>>◌
-  primary_gone h r e = rw h (refuse_bind _ _ r e)
+  primary_gone h r e = rw h (refuse_bind _ _ _ e _)
 
   pub primary-on : front hdlr_form (place_of hdlr at bs) (content_of at bs hdlr) ≡ ok tt → (id : ℕ) →
       whole pitm_form (place_of pitm at bs) (content_of at bs pitm) ≡ ok id → from_handler at bs ≡ from_items at bs id

@@ -6,7 +6,10 @@ use mathlib.Core.List.{List, [], ◌++◌}
 use lib.ListN.{length, get_or, take, drop, set, length-set, length-take, length-drop}
 use lib.Seq.{drop-set-lt}
 use lib.Dec.{lit<}
-use Rattle.boxes.specs.Answer.{Answer, ok}
+use Rattle.std.specs.Prelude.{Result, Ok, Err}
+use Rattle.boxes.specs.Answer.{Answer, ok, refuse}
+use Rattle.boxes.specs.Told.{told}
+use Rattle.boxes.proofs.ToldLaws.{told-ok, told-refused}
 use Rattle.boxes.specs.Types.{iref}
 use Rattle.boxes.specs.Box.{head_of, body_of}
 use Rattle.boxes.specs.Children.{place_of}
@@ -22,41 +25,35 @@ use Rattle.records.specs.inner.Raw.{raw_of}
 use Rattle.records.specs.inner.Rows.{ids_in}
 use Rattle.records.specs.inner.Stage.{Kept, with_references}
 use Rattle.records.specs.inner.Named.{NamedRows}
-use Rattle.references.specs.inner.Told.{told_references, ReferencesLeft}
-use Rattle.references.specs.declared.ReferencesRead.TheVariants as told
+use Rattle.references.specs.inner.Told.{ReferencesLeft}
 use Rattle.records.proofs.KeptLaws.{kept_same}
-use Rattle.references.proofs.ChildrenLaws.{references-refused}
 use Rattle.reading.proofs.BoundLaws.{iref-few}
 use Rattle.reading.specs.declared.Counts.{Counts}
-use Rattle.reading.specs.declared.FileRead.{FileRead}
-use Rattle.reading.specs.declared.FileRead.TheVariants.{Refused}
+use Rattle.reading.specs.declared.Idat.{Idat}
 use Rattle.reading.specs.inner.Parts.{kids, Standing, LastBefore, After, NamedOf, shown_of, file_by, from_references, told_spot, Has}
 use Rattle.reading.proofs.SpotLaws.{there, not_there, boxes-all, boxes-joined, spot_is, SpotIs}
-use Rattle.reading.proofs.StageLaws.{ids_are, after-refused, after_read, references-none, references-read, references_gone}
+use Rattle.reading.proofs.StageLaws.{ids_are, after_read, references-none, references-read, references_gone}
 use Rattle.reading.proofs.NamedLaws.{file-named}
-use Rattle.reading.proofs.ToldLaws.{references-ok}
 
 abbrev pub seat : List Spot → ℕ → Spot
 seat spots j = get_or spots j (record { start = 0; body = 0; end = 0 })
 
--- a spot that ends somewhere is that of the child of its type
-pub seat_is : (s : List ℕ) (at : ℕ) (spots : List Spot) → Standing s spots → (j k : ℕ) →
-    seat spots j ≡ spot_of (where_of k 0 (kids s)) → ((seat spots j).end ≡ 0 → ⊥) → SpotIs s at k (kids s) (seat spots j)
-seat_is s at spots st j k e h = rw e (spot_is s (kids s) (boxes-all s at spots st) (boxes-joined s at spots st) at k
-    (there k (kids s) (λ z. h (ap (λ (p : Spot). p.end) e ∙ z))))
+-- the spot of a child that is there
+module _ (s : List ℕ) (at : ℕ) (spots : List Spot) (st : Standing s spots) (j k : ℕ)
+    (e : seat spots j ≡ spot_of (where_of k 0 (kids s))) (has : Has k (kids s)) where
+  pub child_is : SpotIs s at k (kids s) (seat spots j)
+  child_is = rw e (spot_is s (kids s) (boxes-all s at spots st) (boxes-joined s at spots st) at k has)
 
--- what a child lies within
-pub seat_within : (s : List ℕ) (at : ℕ) (spots : List Spot) → Standing s spots → at + length s ≤ 65536 → (j k : ℕ) →
-    seat spots j ≡ spot_of (where_of k 0 (kids s)) → ((seat spots j).end ≡ 0 → ⊥) →
-    ((seat spots j).body ≤ (seat spots j).end) × ((seat spots j).end ≤ length s) × (at + (seat spots j).start ≤ 65536) ×
-    (at + (seat spots j).body ≤ 65536)
-seat_within s at spots st l j k e h = let i = seat_is s at spots st j k e h in let a = i.head in let b = i.order in
-    let d = i.upto in (b, d, omega arith, omega arith)
+  pub child_within : at + length s ≤ 65536 → ((seat spots j).body ≤ (seat spots j).end) × ((seat spots j).end ≤ length s) ×
+      (at + (seat spots j).start ≤ 65536) × (at + (seat spots j).body ≤ 65536)
+  child_within l = let i = child_is in let a = i.head in let b = i.order in let d = i.upto in (b, d, omega arith, omega arith)
 
 pub iref-within : (s : List ℕ) (at : ℕ) (spots : List Spot) → Standing s spots → at + length s ≤ 65536 →
     ((seat spots 5).end ≡ 0 → ⊥) → ((seat spots 5).body ≤ (seat spots 5).end) × ((seat spots 5).end ≤ length s) ×
     (at + (seat spots 5).start ≤ 65536) × (at + (seat spots 5).body ≤ 65536)
-iref-within s at spots st l h = seat_within s at spots st l 5 iref (ap (λ (y : List Spot). seat y 5) st.spots_are) h
+iref-within s at spots st l h =
+    let e = ap (λ (y : List Spot). seat y 5) st.spots_are in
+    child_within s at spots st 5 iref e (there iref (kids s) (λ z. h (ap (λ (p : Spot). p.end) e ∙ z))) l
 
 -- a part begins where its place says and ends within the head
 pub part_room : (s : List ℕ) (at : ℕ) (p : Spot) (l : at + length s ≤ 65536) → (p.body ≤ p.end) ×
@@ -109,8 +106,8 @@ module _ (s : List ℕ) (at total primary : ℕ) (spots : List Spot) (st : Stand
   here-is : here ≡ spot_of (where_of iref 0 (kids s))
   here-is = ap (λ (y : List Spot). seat y 5) st.spots_are
 
-  abbrev result : FileRead → List ℕ → Type 0
-  result r u = After s at total (from_references at (kids s) primary f.items f.locations (shown_of f)) r x u
+  abbrev result : Idat → List ℕ → Type 0
+  result r u = After s at total (from_references at (kids s) primary f.items f.locations (shown_of f)) (Ok r) x u
 
   abbrev naming : List ℕ → Type 0
   naming v = NamedOf (from_references at (kids s) primary f.items f.locations (shown_of f)) v
@@ -129,7 +126,7 @@ module _ (s : List ℕ) (at total primary : ℕ) (spots : List Spot) (st : Stand
     none_read = references-none s at spots st primary f.items f.locations (shown_of f)
         (not_there iref (kids s) (boxes-all s at spots st) (ap (λ (p : Spot). p.end) (sym here-is) ∙ h))
 
-    pub last_none : (u : List ℕ) → u ≡ stored c.targets t → (r : FileRead) → r ≡ told_spot at s → result r u
+    pub last_none : (u : List ℕ) → u ≡ stored c.targets t → (r : Idat) → r ≡ told_spot at s → result r u
     unfolding targets_in
     last_none u w r a =
         after_read s at total primary c f x t t u l no_references c.targets (sym l.targets) none_read
@@ -139,11 +136,11 @@ module _ (s : List ℕ) (at total primary : ℕ) (spots : List Spot) (st : Stand
     last-none-named v n = file-named _ _ v none_read n
 
   module _ (h : here.end ≡ 0 → ⊥) where
-    is-here : SpotIs s at iref (kids s) here
-    is-here = seat_is s at spots st 5 iref here-is h
-
     has : Has iref (kids s)
     has = there iref (kids s) (λ z. h (ap (λ (p : Spot). p.end) here-is ∙ z))
+
+    is-here : SpotIs s at iref (kids s) here
+    is-here = child_is s at spots st 5 iref here-is has
 
     -- the answer of the code is that of the definition
     module _ (part : List ℕ) (pe : part ≡ take (here.end - here.body) (drop here.body s)) where
@@ -154,36 +151,36 @@ module _ (s : List ℕ) (at total primary : ℕ) (spots : List Spot) (st : Stand
       same : references (ids_in t c.items) (at + here.start) (at + here.body) part ≡ meant
       same = rw (ids_are s at c.items f x t l.before, is-here.place, is-here.begin, pe, is-here.part) refl
 
-      pub last_gone : (r : Refusal) → told_references (references (ids_in t c.items) (at + here.start)
-          (at + here.body) part) ≡ told.Refused r → (u : List ℕ) → result (Refused r) u
-      last_gone r e u = after-refused s at total _ r x u
-          (references_gone s at spots st primary f.items f.locations (shown_of f) has r
-          (sym same ∙ references-refused _ r e))
+      -- what the code answers
+      abbrev told_here : Result ℕ Refusal
+      told_here = told (λ (refs : IrefContent). targets_in refs.derivations) (references (ids_in t c.items) (at + here.start) (at + here.body) part)
 
-      pub last-few : (k : ℕ) → told_references (references (ids_in t c.items) (at + here.start) (at + here.body) part) ≡ told.Targets k → k ≤ 2048
-      last-few k e = let o = references-ok _ k e in let b = iref-few _ _ _ _ o.0 o.1 in omega (arith, o.2)
+      pub last_gone : (r : Refusal) → told_here ≡ Err r →
+          from_references at (kids s) primary f.items f.locations (shown_of f) ≡ refuse r.number r.place
+      last_gone r e = references_gone s at spots st primary f.items f.locations (shown_of f) has r (sym same ∙ told-refused _ _ r e)
+
+      pub last-few : (k : ℕ) → told_here ≡ Ok k → k ≤ 2048
+      last-few k e = let o = told-ok _ _ k e in let b = iref-few _ _ _ _ o.0 o.1 in omega (arith, o.2)
 
       same-ids : references (ids_in t c.items) (at + here.start) (at + here.body) part
           ≡ references (ids_of f.items) (at + here.start) (at + here.body) part
       same-ids = ap (λ (ids : List ℕ). references ids (at + here.start) (at + here.body) part) (ids_are s at c.items f x t l.before)
 
-      pub last-read : (k : ℕ) → told_references (references (ids_in t c.items) (at + here.start) (at + here.body)
-          part) ≡ told.Targets k → (v u : List ℕ) →
-          ReferencesLeft part (at + here.start) (at + here.body) c.items t v → u ≡ stored k v → (r : FileRead) →
+      pub last-read : (k : ℕ) → told_here ≡ Ok k → (v u : List ℕ) →
+          ReferencesLeft part (at + here.start) (at + here.body) c.items t v → u ≡ stored k v → (r : Idat) →
           r ≡ told_spot at s → result r u
       last-read k e v u left w r a =
-          let o = references-ok _ k e in
+          let o = told-ok _ _ k e in
           let m : meant ≡ ok o.0 = sym same ∙ o.1 in
           after_read s at total primary c f x t v u l o.0 k o.2
           (references-read s at spots st primary f.items f.locations (shown_of f) has o.0 m)
           (left.told (places_at at (kids s)) f x o.0 l.before.ready l.none (sym same-ids ∙ o.1) l.before.is) w r a
 
-      pub last-named : (k : ℕ) → told_references (references (ids_in t c.items) (at + here.start) (at + here.body)
-          part) ≡ told.Targets k → (v : List ℕ) → ((refs : IrefContent) → references (ids_of f.items)
+      pub last-named : (k : ℕ) → told_here ≡ Ok k → (v : List ℕ) → ((refs : IrefContent) → references (ids_of f.items)
           (at + here.start) (at + here.body) part ≡ ok refs → NamedRows f.items f.locations refs.links v) →
           naming v
       last-named k e v named =
-          let o = references-ok _ k e in
+          let o = told-ok _ _ k e in
           file-named _ _ v
           (references-read s at spots st primary f.items f.locations (shown_of f) has o.0 (sym same ∙ o.1))
           (named o.0 (sym same-ids ∙ o.1))

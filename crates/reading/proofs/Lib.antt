@@ -2,7 +2,6 @@ pub mod SpotLaws
 pub mod PartLaws
 pub mod BoundLaws
 pub mod TableLaws
-pub mod ToldLaws
 pub mod StageLaws
 pub mod NamedLaws
 pub mod ChainLaws

@@ -10,22 +10,21 @@ use Rattle.boxes.specs.Answer.{ok, refuse, check, ◌>>=◌, ◌>>◌}
 use Rattle.boxes.specs.Types.{known}
 use Rattle.boxes.specs.Box.{head_of, body_of, IsBox, Cut, cut}
 use Rattle.boxes.specs.Children.{children}
-use Rattle.boxes.specs.inner.Family.{spots_of}
 use Rattle.boxes.specs.Top.{meta_in}
 use Rattle.boxes.specs.Top as Top
 use Rattle.boxes.specs.declared.Spot.{Spot}
 use Rattle.boxes.specs.declared.Refusal.{Refusal}
-use Rattle.boxes.proofs.AnswerLaws.{ok_bind, ok-then, ok-check}
+use Rattle.boxes.proofs.AnswerLaws.{ok_bind, ok-then, ok-check, refuse_bind}
 use Rattle.boxes.proofs.BoxLaws.{cut-only, full-cut}
 use Rattle.boxes.proofs.ChildLaws.{children-sound}
 use Rattle.forms.specs.Lead.{lead, lead_by}
 use Rattle.contents.specs.Full.{full, upto}
+use Rattle.contents.specs.declared.Full as code
 use Rattle.contents.specs.File.{contents_of, file_of, read_file}
 use Rattle.contents.proofs.FullLaws.{FullHere}
 use Rattle.rules.specs.Places.{places_at, places_by, places_in}
 use Rattle.reading.specs.inner.Parts.{kids, Five, Standing, spots_in, from_handler}
 use Rattle.reading.proofs.PartLaws.{contents_parts}
-use Rattle.reading.proofs.ToldLaws.{refuse_bind}
 
 -- kids: the children that are read are those that the content is cut into
 module _ (p at : ℕ) (s : List ℕ) (bs : List (List ℕ)) (e : children known p at s ≡ ok bs) where
@@ -38,18 +37,13 @@ module _ (p at : ℕ) (s : List ℕ) (bs : List (List ℕ)) (e : children known 
   pub kids-all : All IsBox bs
   kids-all = (children-sound known p at s bs e).all
 
-  pub standing : (spots : List Spot) → spots ≡ spots_of (ok bs) → Five bs → Standing s spots
-  unfolding spots_of
+  pub standing : (spots : List Spot) → spots ≡ spots_in bs → Five bs → Standing s spots
   standing spots q f =
       record {
         rest = ap (λ (c : Cut). c.rest) kids_are;
         five = subst Five (sym boxes_are) f;
         spots_are = q ∙ ap spots_in (sym boxes_are);
       }
-
-  pub spots_in_lem : (spots : List Spot) → spots ≡ spots_of (ok bs) → spots ≡ spots_in bs
-  unfolding spots_of
-  spots_in_lem spots q = q
 
   pub contents_kids : Five bs → contents_of p at s ≡ from_handler at (kids s)
   contents_kids f = contents_parts p at s bs e f ∙ ap (from_handler at) (sym boxes_are)
@@ -60,9 +54,9 @@ module _ (p at : ℕ) (s : List ℕ) where
   unfolding file_of lead lead_by
   file_gone r e = rw e
 
-  pub file-here : (v f : ℕ) → FullHere (upto 0) p s v f → file_of p at s ≡ contents_of p (at + 4) (drop 4 s)
+  pub file-here : (v : code.Full) → FullHere (upto 0) p s v → file_of p at s ≡ contents_of p (at + 4) (drop 4 s)
   unfolding file_of lead lead_by
-  file-here v f h =
+  file-here v h =
       let l = h.room in
       let k : length s - length (drop 4 s) ≡ 4 = rw length-drop (omega arith) in
       rw (h.read, k) refl
@@ -83,7 +77,7 @@ module _ (total : ℕ) (head : List ℕ) where
     opened = ok-then _ _ tt (ok-check 2 0 _ (rw (le-leb (length head) 65536 h, le-leb (length head) total k) refl))
 
     pub read_gone : (r : Refusal) → meta_in total head ≡ refuse r.number r.place → read_file total head ≡ refuse r.number r.place
-    read_gone r e = opened ∙ refuse_bind _ _ r e
+    read_gone r e = opened ∙ refuse_bind _ _ _ e _
 
     pub read-meta : (m : Top.PlacedBox) → meta_in total head ≡ ok m → read_file total head ≡ file_of m.place (m.place + head_of m.box) (body_of m.box)
     read-meta m e = opened ∙ ok_bind _ _ m e

@@ -1,15 +1,13 @@
 -- What holds of the file that is read (its rows: NamedIn). Assumes nothing.
 use Prim.Native.Nat.{ℕ}
 use native.Mathlib.Omega.{arith}
-use mathlib.Core.Path.{◌≡◌, refl, sym, ◌∙◌, subst}
+use mathlib.Core.Path.{◌≡◌, sym, ◌∙◌, subst}
 use mathlib.Core.List.{List}
 use Rattle.boxes.specs.Answer.{Answer, ok, refuse}
-use Rattle.boxes.specs.declared.Refusal.{Refusal}
 use Rattle.boxes.proofs.AnswerLaws.{ok_inj}
 use Rattle.contents.specs.File.{File}
 use Rattle.records.specs.inner.Named.{NamedIn}
-use Rattle.reading.specs.declared.FileRead.TheVariants.{Refused}
-use Rattle.reading.specs.inner.Parts.{told_file, NamedOf}
+use Rattle.reading.specs.inner.Parts.{NamedOf}
 
 -- there is one such file
 pub file-named : (m : Answer File) (f : File) (v : List ℕ) → m ≡ ok f → NamedIn f v → NamedOf m v
@@ -23,7 +21,5 @@ same-named m k e h g q = h g (sym e ∙ q)
 pub no_file : {P : Type 0} (m : Answer File) (n p : ℕ) → m ≡ refuse n p → (g : File) → m ≡ ok g → P
 no_file m n p e g q = let z : ◌≡◌ {A = Answer File} (refuse n p) (ok g) = sym e ∙ q in let w : ◌≡◌ {A = ℕ} 0 1 = cc in absurd (omega arith)
 
-pub refused_none : {P : Type 0} (idat : ℕ) (m : Answer File) (r : Refusal) → Refused r ≡ told_file idat m → (g : File) → m ≡ ok g → P
-unfolding told_file
-refused_none idat (ok f) r e g q = let z : ◌≡◌ {A = ℕ} 0 1 = cc in absurd (omega arith)
-refused_none idat (refuse n p) r e g q = no_file (refuse n p) n p refl g q
+pub none-named : (m : Answer File) (n p : ℕ) (v : List ℕ) → m ≡ refuse n p → NamedOf m v
+none-named m n p v e g q = no_file m n p e g q

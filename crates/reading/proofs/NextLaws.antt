@@ -1,10 +1,12 @@
 -- From `iloc` to `iprp` and from there to the last stage, as the code's answers tell it. Assumes nothing.
 use Prim.Native.Nat.{ℕ, ◌+◌, ◌-◌, ◌≤◌}
-use native.Mathlib.Omega.{arith}
 use mathlib.Core.Path.{◌≡◌, refl, sym, ap, ◌∙◌}
 use mathlib.Core.List.{List}
 use lib.ListN.{length, take, drop}
-use Rattle.boxes.specs.Answer.{Answer, ok}
+use Rattle.std.specs.Prelude.{Ok, Err}
+use Rattle.boxes.specs.Answer.{Answer, ok, refuse}
+use Rattle.boxes.specs.Told.{told}
+use Rattle.boxes.proofs.ToldLaws.{told-ok, told-refused}
 use Rattle.boxes.specs.Types.{iloc, iprp}
 use Rattle.boxes.specs.Box.{head_of}
 use Rattle.boxes.specs.Children.{place_of}
@@ -19,27 +21,14 @@ use Rattle.contents.specs.Iprp.{IprpContent, iprp_content}
 use Rattle.rules.specs.Places.{places_at}
 use Rattle.records.specs.inner.Rows.{ids_in}
 use Rattle.records.specs.inner.Stage.{with_items, with_locations, with_properties, with_names}
-use Rattle.locations.specs.inner.Told.{told_locations, LocationsLeft, Unplaced}
-use Rattle.locations.specs.declared.LocationsRead.TheVariants as located
-use Rattle.properties.specs.inner.Told.{told_shown, ShownLeft}
-use Rattle.properties.specs.declared.ShownRead.TheVariants as showing
-use Rattle.reading.specs.declared.FileRead.TheVariants.{Refused}
-use Rattle.reading.specs.inner.Parts.{kids, Standing, Before, LastBefore, After, content_of, begin_of, from_locations, from_shown, from_references, Has}
-use Rattle.reading.proofs.SpotLaws.{boxes-all, boxes-joined, spot_is, SpotIs}
-use Rattle.reading.proofs.StageLaws.{ids_are, after-refused}
+use Rattle.locations.specs.inner.Told.{LocationsLeft, Unplaced}
+use Rattle.properties.specs.inner.Told.{shown_of, ShownLeft}
+use Rattle.properties.specs.declared.Shown.{Shown}
+use Rattle.reading.specs.inner.Parts.{kids, Standing, Before, LastBefore, content_of, begin_of, from_locations, from_shown, from_references}
+use Rattle.reading.proofs.SpotLaws.{SpotIs}
+use Rattle.reading.proofs.StageLaws.{ids_are}
 use Rattle.reading.proofs.ChainLaws.{ids-distinct, none-located, locations_gone, locations-on, shown_begins, shown_gone, shown-on, last_begins}
-use Rattle.reading.proofs.ToldLaws.{locations-ok, locations-refused, shown_ok, shown-refused}
-use Rattle.reading.proofs.LastLaws.{seat}
-
--- the spot of a child that is there
-module _ (s : List ℕ) (at : ℕ) (spots : List Spot) (st : Standing s spots) (j k : ℕ)
-    (e : seat spots j ≡ spot_of (where_of k 0 (kids s))) (has : Has k (kids s)) where
-  pub child_is : SpotIs s at k (kids s) (seat spots j)
-  child_is = rw e (spot_is s (kids s) (boxes-all s at spots st) (boxes-joined s at spots st) at k has)
-
-  pub child_within : at + length s ≤ 65536 → ((seat spots j).body ≤ (seat spots j).end) × ((seat spots j).end ≤ length s) ×
-      (at + (seat spots j).start ≤ 65536) × (at + (seat spots j).body ≤ 65536)
-  child_within l = let i = child_is in let a = i.head in let b = i.order in let d = i.upto in (b, d, omega arith, omega arith)
+use Rattle.reading.proofs.LastLaws.{seat, child_is, child_within}
 
 -- `iloc`
 module _ (s : List ℕ) (at : ℕ) (spots : List Spot) (st : Standing s spots) where
@@ -67,16 +56,15 @@ module _ (s : List ℕ) (at : ℕ) (spots : List Spot) (st : Standing s spots) w
       same-ids : read ≡ whole (iloc_form (ids_of is)) (at + (seat spots 3).start) part
       same-ids = ap (λ (ids : List ℕ). whole (iloc_form ids) (at + (seat spots 3).start) part) (ids_are s at n (with_items is) x t b)
 
-      pub iloc_gone : (total primary : ℕ) (r : Refusal) → told_locations read ≡ located.Refused r → (u : List ℕ) →
-          After s at total (from_locations at (kids s) primary is) (Refused r) x u
-      iloc_gone total primary r e u = after-refused s at total _ r x u (locations_gone at (kids s) primary is r (sym same ∙ locations-refused _ r e))
+      pub iloc_gone : (primary : ℕ) (r : Refusal) → told extents_in read ≡ Err r → from_locations at (kids s) primary is ≡ refuse r.number r.place
+      iloc_gone primary r e = locations_gone at (kids s) primary is r (sym same ∙ told-refused _ _ r e)
 
-      pub iloc-on : (k : ℕ) → told_locations read ≡ located.Done k → (d : ℕ) → d ≡ (places_at at (kids s)).idat →
+      pub iloc-on : (k : ℕ) → told extents_in read ≡ Ok k → (d : ℕ) → d ≡ (places_at at (kids s)).idat →
           (u : List ℕ) → LocationsLeft part (at + (seat spots 3).start) n d t u → (primary : ℕ) → (ls : List Location) ×
           Before s at n (with_locations (with_items is) ls) x u × (extents_in ls ≡ k) ×
           (from_locations at (kids s) primary is ≡ from_shown at (kids s) primary is ls) × (read ≡ ok ls)
       iloc-on k e d de u left primary =
-          let o = locations-ok _ k e in
+          let o = told-ok _ _ k e in
           let m : meant ≡ ok o.0 = sym same ∙ o.1 in
           let w = left.told (places_at at (kids s)) (with_items is) x o.0 (sym de) b.ready refl (sym same-ids ∙ o.1) b.is in
           (o.0, shown_begins s at n is x t u o.0 b m w, o.2, locations-on at (kids s) primary is o.0 m, o.1)
@@ -115,19 +103,22 @@ module _ (s : List ℕ) (at : ℕ) (spots : List Spot) (st : Standing s spots) w
     unfolding places_at
     first-place = let i = child in rw (i.begin, pe, i.part) refl
 
-    pub iprp_gone : (total primary : ℕ) (r : Refusal) → told_shown shown_read ≡ showing.Refused r → (u : List ℕ) →
-        After s at total (from_shown at (kids s) primary is ls) (Refused r) x u
-    iprp_gone total primary r e u = after-refused s at total _ r x u (shown_gone at (kids s) primary is ls r (sym shown-same ∙ shown-refused _ r e))
+    pub iprp_gone : (primary : ℕ) (r : Refusal) → told shown_of shown_read ≡ Err r → from_shown at (kids s) primary is ls ≡ refuse r.number r.place
+    iprp_gone primary r e = shown_gone at (kids s) primary is ls r (sym shown-same ∙ told-refused _ _ r e)
 
-    pub iprp-on : (p k : ℕ) → told_shown shown_read ≡ showing.Shown p k → (u : List ℕ) →
+    pub iprp-on : (h : Shown) → told shown_of shown_read ≡ Ok h → (u : List ℕ) →
         ShownLeft part (at + (seat spots 4).start) (at + (seat spots 4).body) n t u → (extents : ℕ) →
         extents_in ls ≡ extents → (primary : ℕ) → (v : IprpContent) ×
-        LastBefore s at (record { items = n; properties = p; associations = k; targets = 0; extents = extents })
+        LastBefore s at (record { items = n; properties = h.properties; associations = h.associations; targets = 0; extents = extents })
         (with_names (with_properties (with_locations (with_items is) ls) v.properties) v.associations) x u ×
         (from_shown at (kids s) primary is ls ≡ from_references at (kids s) primary is ls v)
-    iprp-on p k e u left extents he primary =
-        let o = shown_ok _ p k e in
+    iprp-on h e u left extents he primary =
+        let o = told-ok _ _ h e in
         let m : shown_meant ≡ ok o.0 = sym shown-same ∙ o.1 in
         let w = left.told (places_at at (kids s)) (with_locations (with_items is) ls) x o.0 first-place b.ready refl
-        refl (sym shown-same-ids ∙ o.1) b.is in
-        (o.0, last_begins s at n is ls x t u o.0 p k extents b m w o.2 o.3 he, shown-on at (kids s) primary is ls o.0 m)
+        refl (sym shown-same-ids ∙ o.1) b.is in (
+          o.0,
+          last_begins s at n is ls x t u o.0 _ _ extents b m w (ap (λ (y : Shown). y.properties) o.2)
+              (ap (λ (y : Shown). y.associations) o.2) he,
+          shown-on at (kids s) primary is ls o.0 m,
+        )

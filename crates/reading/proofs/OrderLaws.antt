@@ -18,7 +18,10 @@ use lib.ListN.{
   get_or-append,
 }
 use lib.Seq.{length-take-le, take-suc, drop-cons, append_snoc, get_or-take, get_or-drop, set_at, take_at, drop_at}
-use Rattle.boxes.specs.Answer.{Answer, ok, refuse}
+use Rattle.std.specs.Prelude.{Result, Ok, Err, OnOk}
+use Rattle.boxes.specs.declared.Refusal.{Refusal}
+use Rattle.boxes.specs.Answer.{Answer, ok}
+use Rattle.boxes.proofs.ToldLaws.{told-ok}
 use Rattle.boxes.proofs.AnswerLaws.{with_ok, ok_inj}
 use Rattle.contents.specs.Iinf.{Item, ids_of}
 use Rattle.contents.specs.Iref.{targets_in}
@@ -32,9 +35,8 @@ use Rattle.records.proofs.SetsLaws.{get_or-from}
 use Rattle.records.proofs.SaidLaws.{derived_total}
 use Rattle.records.proofs.KeyedLaws.{keys-long}
 use Rattle.records.proofs.PickLaws.{named-same}
-use Rattle.reading.specs.declared.FileRead.{FileRead}
-use Rattle.reading.specs.declared.FileRead.TheVariants.{Is}
-use Rattle.reading.specs.inner.Parts.{kids, After, NamedOf, told_file, from_references, from_shown, from_locations}
+use Rattle.reading.specs.declared.Idat.{Idat}
+use Rattle.reading.specs.inner.Parts.{kids, After, NamedOf, from_references, from_shown, from_locations}
 use Rattle.reading.proofs.BoundLaws.{referred-few}
 use Rattle.reading.proofs.StageLaws.{ids-read}
 
@@ -135,11 +137,6 @@ locations-file at bs primary is g e =
     (sym (ap (λ (f : File). f.items) w), subst (λ (f : File). targets_in f.derivations ≤ 2048) w (referred-few _ _ _ refs h)))))
 
 -- After: the table of a file that is read
-read-file : (idat : ℕ) (m : Answer File) (r : FileRead) (i e : ℕ) → r ≡ told_file idat m → r ≡ Is i e → (g : File) × (m ≡ ok g)
-unfolding told_file
-read-file idat (ok g) r i e a q = (g, refl)
-read-file idat (refuse n p) r i e a q = let z : ◌≡◌ {A = ℕ} 0 1 = cc in absurd (omega arith)
-
 head_items : (total : ℕ) (pl : Places) (g : File) (x : List ℕ) → get_or (raw_of (head_words total g) pl g ++ x) 0 0 ≡ length g.items
 unfolding raw_of region
 head_items total pl g x = refl
@@ -154,10 +151,10 @@ pub record Counted (is : List Item) (n : ℕ) (t : List ℕ) : Type 0 where
   pub ids : ids_in t n ≡ ids_of is
   pub targets : get_or t 3 0 ≤ 2048
 
-pub read_counted : (s : List ℕ) (at total primary n : ℕ) (is : List Item) (r : FileRead) (x t : List ℕ) → length is ≡ n →
-    After s at total (from_locations at (kids s) primary is) r x t → (i e : ℕ) → r ≡ Is i e → Counted is n t
-read_counted s at total primary n is r x t c a i e q =
-    let f = read-file _ _ r i e a.answer q in
+pub read_counted : (s : List ℕ) (at total primary n : ℕ) (is : List Item) (d : Idat) (x t : List ℕ) → length is ≡ n →
+    After s at total (from_locations at (kids s) primary is) (Ok d) x t → Counted is n t
+read_counted s at total primary n is d x t c a =
+    let f = told-ok _ _ d (sym a.answer) in
     let g : File = f.0 in
     let pl : Places = places_at at (kids s) in
     let w = locations-file at (kids s) primary is g f.1 in
@@ -168,6 +165,15 @@ read_counted s at total primary n is r x t c a i e q =
       ids = ids-read (head_words total g) pl x (omega arith) n g t m u ∙ ap ids_of w.0;
       targets = omega (arith, ap (λ (y : List ℕ). get_or y 3 0) u ∙ head_targets total pl g x, w.1);
     }
+
+-- where all is read, each target has its row, and the rows stand in order
+pub read_rowed : (s : List ℕ) (at total primary n : ℕ) (is : List Item) (r : Result Idat Refusal) (x t : List ℕ) → length is ≡ n →
+    After s at total (from_locations at (kids s) primary is) r x t → (v : List ℕ) → 2304 ≤ length v → (w : List ℕ) →
+    w ≡ order_put (order_of (ids_of is)) v → OnOk r (TargetsRowed t v) → OnOk r (Rowed t w)
+read_rowed s at total primary n is (Ok d) x t c a v room w q h =
+    let o = read_counted s at total primary n is d x t c a in
+    order_rowed (ids_of is) v room t w n q o.items (length-map is _ ∙ c) o.ids o.targets h
+read_rowed s at total primary n is (Err f) x t c a v room w q h = tt
 
 -- Keyed: there are 512 of them
 pub keyed-512 : (ids ks : List ℕ) → Keyed ids ks → length ks ≡ 512

@@ -6,13 +6,7 @@ use mathlib.Core.List.{List}
 use mathlib.Core.Logic.{◌⊎◌, inl, inr}
 use lib.ListN.{length, get_or, set, length-set}
 use lib.Seq.{get_or-set_same, get_or-set_other}
-use Rattle.boxes.specs.declared.Refusal.{Refusal}
 use Rattle.records.specs.inner.Rows.{RowedTo, TargetsRowed}
-use Rattle.reading.specs.declared.FileRead.TheVariants.{Is, Refused}
-
--- a refusal is no reading
-pub no_reading : {P : Type 0} (r : Refusal) (i e : ℕ) → Refused r ≡ Is i e → P
-no_reading r i e q = let z : ◌≡◌ {A = ℕ} 0 1 = cc in absurd (omega arith)
 
 -- where there are no targets, each has its row
 pub none_rowed : (n k : ℕ) (t v : List ℕ) → k ≡ 0 → RowedTo n k t v

@@ -6,7 +6,10 @@ use mathlib.Core.List.{List, [], ◌∷◌, append-nil}
 use mathlib.Core.Bool.{Bool, true, false}
 use lib.ListN.{length, get_or, take, drop, length-take, length-drop}
 use lib.Dec.{eqb}
-use borrow.Author.Tests.{eqb-true}
+use borrow.Author.Tests.{eqb-true, eq-eqb}
+use Rattle.std.specs.Prelude.{◌||◌}
+use Rattle.std.specs.List.{list_any}
+use mathlib.Core.Logic.{inl, inr}
 use Rattle.fields.specs.Choice.{pick}
 use Rattle.fields.specs.Lists.{All}
 use Rattle.boxes.specs.Box.{head_of, kind_of, body_of, IsBox, flat}
@@ -16,13 +19,13 @@ use Rattle.boxes.specs.inner.Family.{spot_of}
 use Rattle.boxes.specs.declared.Spot.{Spot}
 use Rattle.boxes.proofs.BoxLaws.{head_least, cut-is, cut-whole}
 use Rattle.boxes.proofs.ChildLaws.{of_yes, of_no, nil_filled}
-use Rattle.boxes.specs.Types.{idat}
+use Rattle.boxes.specs.Types.{hdlr, pitm, iinf, iloc, iprp, idat}
 use Rattle.boxes.proofs.WhereLaws.{Stands, where_yes, where_no, where_first}
 use Rattle.rules.specs.Places.{first_of}
 use Rattle.rules.specs.Places.{places_at}
 use Rattle.contents.specs.File.{data_of}
-use Rattle.reading.specs.inner.Parts.{Has, kids, Standing, told_spot}
-use Rattle.reading.specs.declared.FileRead.TheVariants.{Is}
+use Rattle.reading.specs.inner.Parts.{Has, Missing, kids, spots_in, Standing, told_spot}
+use Rattle.reading.specs.declared.Idat.{Idat}
 
 -- Has
 pub has_first : (k : ℕ) (bs : List (List ℕ)) → Has k bs → (cs : List (List ℕ)) × (of_kind k bs ≡ first_of k bs ∷ cs)
@@ -132,6 +135,32 @@ module _ (k : ℕ) (bs : List (List ℕ)) where
       go true e = absurd ((spot_is (flat bs) bs a refl 0 k e).some h)
       go false e = e
 
+-- a child that must be there is missing where one of the first five spots ends at 0
+abbrev pub ends-at-0 : Spot → Bool
+ends-at-0 p = eqb p.end 0
+
+pub missing_any : (bs : List (List ℕ)) → All IsBox bs → Missing bs (list_any ends-at-0 (take 5 (spots_in bs)))
+missing_any bs a = go _ _ _ _ _ refl refl refl refl refl
+  where
+    gone : ℕ → Bool
+    gone k = ends-at-0 (spot_of (where_of k 0 bs))
+
+    none : (k : ℕ) → gone k ≡ true → filled (of_kind k bs) ≡ false
+    none k e = not_there k bs a (eqb-true _ _ e)
+
+    some : (k : ℕ) → gone k ≡ false → Has k bs
+    some k e = there k bs (λ z. let w : ◌≡◌ {A = Bool} true false = sym (eq-eqb _ _ z) ∙ e in cc)
+
+    go : (h p i l r : Bool) → gone hdlr ≡ h → gone pitm ≡ p → gone iinf ≡ i → gone iloc ≡ l → gone iprp ≡ r →
+        Missing bs (h || (p || (i || (l || (r || false)))))
+    go true p i l r a b c d e = (hdlr, inl refl, none hdlr a)
+    go false true i l r a b c d e = (pitm, inr (inl refl), none pitm b)
+    go false false true l r a b c d e = (iinf, inr (inr (inr (inl refl))), none iinf c)
+    go false false false true r a b c d e = (iloc, inr (inr (inl refl)), none iloc d)
+    go false false false false true a b c d e = (iprp, inr (inr (inr (inr refl))), none iprp e)
+    go false false false false false a b c d e =
+        record { has_hdlr = some hdlr a; has_pitm = some pitm b; has_iinf = some iinf c; has_iloc = some iloc d; has_iprp = some iprp e }
+
 -- the content of a child is as long as its spot says
 pub spot-length : (s : List ℕ) (at k : ℕ) (bs : List (List ℕ)) (p : Spot) → SpotIs s at k bs p → p.body + length (body_of (first_of k bs)) ≡ p.end
 spot-length s at k bs p h =
@@ -151,14 +180,14 @@ module _ (s : List ℕ) (at : ℕ) (spots : List Spot) (st : Standing s spots) w
   pub boxes-joined : flat (kids s) ≡ s
   boxes-joined = cut-whole s st.rest
 
-  pub no_idat : last.end ≡ 0 → Is 0 0 ≡ told_spot at s
+  pub no_idat : last.end ≡ 0 → ◌≡◌ {A = Idat} (record { idat = 0; idat_end = 0 }) (told_spot at s)
   unfolding told_spot places_at data_of pick
   no_idat h =
       let e = not_there idat (kids s) boxes-all h in
       let n : of_kind idat (kids s) ≡ [] = nil_filled _ e in
       rw (e, n)
 
-  pub an_idat : (last.end ≡ 0 → ⊥) → Is (at + last.body) (at + last.end) ≡ told_spot at s
+  pub an_idat : (last.end ≡ 0 → ⊥) → ◌≡◌ {A = Idat} (record { idat = at + last.body; idat_end = at + last.end }) (told_spot at s)
   unfolding told_spot places_at data_of pick
   an_idat h =
       let e = there idat (kids s) h in
@@ -175,7 +204,7 @@ module _ (s : List ℕ) (at : ℕ) (spots : List Spot) (st : Standing s spots) w
   here-is : here ≡ last
   here-is = ap (λ (l : List Spot). get_or l 6 (record { start = 0; body = 0; end = 0 })) st.spots_are
 
-  pub idat-is : (here.end ≡ 0 → ⊥) → Is (at + here.body) (at + here.end) ≡ told_spot at s
+  pub idat-is : (here.end ≡ 0 → ⊥) → ◌≡◌ {A = Idat} (record { idat = at + here.body; idat_end = at + here.end }) (told_spot at s)
   idat-is h = rw here-is (an_idat (λ z. h (ap (λ (p : Spot). p.end) here-is ∙ z)))
 
   pub idat-within : at + length s ≤ 65536 → (at + here.body ≤ 65536) × (at + here.end ≤ 65536)

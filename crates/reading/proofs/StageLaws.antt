@@ -12,7 +12,10 @@ use Rattle.boxes.specs.Box.{head_of, body_of}
 use Rattle.boxes.specs.Children.{of_kind, filled, place_of}
 use Rattle.boxes.specs.declared.Spot.{Spot}
 use Rattle.boxes.specs.declared.Refusal.{Refusal}
-use Rattle.boxes.proofs.AnswerLaws.{ok_bind, ok_inj}
+use Rattle.std.specs.Prelude.{Result, Ok, Err, OnOk, IsErrAnd}
+use Rattle.std.proofs.lemmas.Result.{err_from_is_err_and}
+use Rattle.boxes.specs.Told.{told}
+use Rattle.boxes.proofs.AnswerLaws.{ok_bind, ok_inj, refuse_bind}
 use Rattle.boxes.proofs.ChildLaws.{nil_filled}
 use Rattle.contents.specs.Iinf.{Item, ids_of}
 use Rattle.contents.specs.Iloc.{Location}
@@ -27,12 +30,10 @@ use Rattle.records.specs.inner.Stage.{with_references}
 use Rattle.records.proofs.RawLaws.{raw-id}
 use Rattle.records.proofs.SaidLaws.{named_total, derived_total, located_total}
 use Rattle.reading.specs.declared.Counts.{Counts}
-use Rattle.reading.specs.declared.FileRead.{FileRead}
-use Rattle.reading.specs.declared.FileRead.TheVariants.{Refused}
+use Rattle.reading.specs.declared.Idat.{Idat}
 use Rattle.reading.specs.inner.Parts.{kids, Standing, Before, LastBefore, After, shown_of, file_by, from_references, told_file, told_spot, Has}
 use Rattle.reading.proofs.SpotLaws.{has_first}
 use Rattle.reading.proofs.TableLaws.{raw_head}
-use Rattle.reading.proofs.ToldLaws.{refuse_bind}
 
 -- ids_in
 ids-take : (t l : List ℕ) (n : ℕ) → n ≤ length l → ((k : ℕ) → k < n → id_at t k ≡ get_or l k 0) → ids_in t n ≡ take n l
@@ -52,16 +53,28 @@ ids_are s at n f x t b = ids-read [] (places_at at (kids s)) x (omega arith) n f
 
 -- After: a refusal
 pub after-refused : (s : List ℕ) (at total : ℕ) (m : Answer File) (r : Refusal) (x u : List ℕ) →
-    m ≡ refuse r.number r.place → After s at total m (Refused r) x u
-unfolding told_file
+    m ≡ refuse r.number r.place → After s at total m (Err r) x u
+unfolding told
 after-refused s at total m r x u e =
     record {
       answer = sym (ap (told_file (places_at at (kids s)).idat) e);
       left = λ g q. let z : ◌≡◌ {A = Answer File} (refuse r.number r.place) (ok g) = sym e ∙ q in let w : ◌≡◌ {A = ℕ} 0 1 = cc in absurd (omega arith);
     }
 
+-- what `?` hands on: y is the refusal r
+pub handed : (y : Result Idat Refusal) (r : Refusal) → IsErrAnd y (λ f. f ≡ r) → y ≡ Err r
+handed y r h = let p = err_from_is_err_and y h in p.1 ∙ ap Err p.2
+
+pub after-handed : (s : List ℕ) (at total : ℕ) (m : Answer File) (y : Result Idat Refusal) (r : Refusal) (x u : List ℕ) → y ≡ Err r →
+    m ≡ refuse r.number r.place → After s at total m y x u
+after-handed s at total m y r x u q e = subst (λ (z : Result Idat Refusal). After s at total m z x u) (sym q) (after-refused s at total m r x u e)
+
+pub on-handed : (P : Type 0) (y : Result Idat Refusal) (r : Refusal) → y ≡ Err r → OnOk y P
+on-handed P y r q = rw q tt
+
 -- After: of what comes to the same
-pub after_same : (s : List ℕ) (at total : ℕ) (m k : Answer File) (r : FileRead) (x u : List ℕ) → m ≡ k → After s at total k r x u → After s at total m r x u
+pub after_same : (s : List ℕ) (at total : ℕ) (m k : Answer File) (r : Result Idat Refusal) (x u : List ℕ) → m ≡ k →
+    After s at total k r x u → After s at total m r x u
 after_same s at total m k r x u e a = subst (λ (y : Answer File). After s at total y r x u) (sym e) a
 
 -- After: all is read, and the first words are stored
@@ -102,13 +115,13 @@ module _ (s : List ℕ) (at total primary : ℕ) (c : Counts) (f : File) (x t v 
       words_are ∙ same_lists (head_words total whole-file))
 
   pub after_read : from_references at (kids s) primary f.items f.locations (shown_of f) ≡ ok whole-file →
-      v ≡ raw_of [] (places_at at (kids s)) (with_references f refs) ++ x → u ≡ stored v → (r : FileRead) →
-      r ≡ told_spot at s → After s at total (from_references at (kids s) primary f.items f.locations (shown_of f)) r
+      v ≡ raw_of [] (places_at at (kids s)) (with_references f refs) ++ x → u ≡ stored v → (r : Idat) →
+      r ≡ told_spot at s → After s at total (from_references at (kids s) primary f.items f.locations (shown_of f)) (Ok r)
       x u
-  unfolding told_file told_spot
+  unfolding told told_spot
   after_read e i w r a =
       record {
-        answer = a ∙ sym (ap (told_file (places_at at (kids s)).idat) e);
+        answer = ap Ok a ∙ sym (ap (told_file (places_at at (kids s)).idat) e);
         left = λ g q. let h : whole-file ≡ g = ok_inj _ _ (sym e ∙ q) in
             subst (λ (y : File). u ≡ raw_of (head_words total y) (places_at at (kids s)) y ++ x) h (table_is i w);
       }
@@ -136,4 +149,4 @@ module _ (s : List ℕ) (at : ℕ) (spots : List Spot) (st : Standing s spots) (
       references (ids_of is) (place_of iref at (kids s)) (place_of iref at (kids s) + head_of (first_of iref (kids s)))
       (body_of (first_of iref (kids s))) ≡ refuse r.number r.place →
       from_references at (kids s) primary is ls sh ≡ refuse r.number r.place
-  references_gone h r e = referred-is h ∙ refuse_bind _ _ r e
+  references_gone h r e = referred-is h ∙ refuse_bind _ _ _ e _

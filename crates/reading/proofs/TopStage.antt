@@ -5,27 +5,27 @@ use mathlib.Core.Path.{◌≡◌, refl, sym, ap, ◌∙◌, subst}
 use mathlib.Core.List.{List, [], ◌++◌, append_assoc}
 use mathlib.Core.Logic.{◌⊎◌, inl, inr}
 use mathlib.Core.Bool.{Bool, true, false}
-use lib.ListN.{length, get_or, take, drop, replicate, length-take, length-drop, length-append, length-replicate}
+use lib.ListN.{length, take, drop, replicate, length-take, length-drop, length-append, length-replicate}
 use lib.Seq.{take_all, drop_at}
 use lib.Dec.{leb, ltb}
 use borrow.Author.Tests.{le-leb, lt-leb, le-ltb}
 use Rattle.fields.specs.Field.{be_at}
 use Rattle.fields.proofs.FieldLaws.{pick_yes, pick_no}
+use Rattle.std.specs.Prelude.{Result, Ok, Err, is_err}
 use Rattle.boxes.specs.Answer.{Answer, ok, refuse, check, ◌>>◌}
+use Rattle.boxes.specs.Told.{told}
+use Rattle.boxes.proofs.ToldLaws.{told-ok, told-refused}
 use Rattle.fields.specs.Lists.{All}
 use Rattle.boxes.specs.Types.{hdlr, pitm, iinf, known}
 use Rattle.boxes.specs.Box.{IsBox, head_of, body_of, flat}
 use Rattle.boxes.specs.Top.{meta_in, FirstMeta}
 use Rattle.boxes.specs.Top as Top
-use Rattle.boxes.specs.declared.FoundMeta.TheVariants as found-meta
 use Rattle.boxes.proofs.AnswerLaws.{ok-then, ok-check}
 use Rattle.boxes.proofs.BoxLaws.{short_head}
 use Rattle.boxes.proofs.WhereLaws.{body-part}
 use Rattle.boxes.proofs.TopLaws.{meta-sound}
 use Rattle.boxes.specs.Children.{place_of, children}
-use Rattle.boxes.specs.inner.Where.{where_of}
-use Rattle.boxes.specs.inner.Family.{spot_of, spots_of, told_walk, told_meta}
-use Rattle.boxes.specs.declared.Walked.TheVariants as walked
+use Rattle.boxes.specs.inner.Family.{spots_of, meta_spot}
 use Rattle.boxes.specs.declared.Spot.{Spot}
 use Rattle.boxes.specs.declared.Refusal.{Refusal}
 use Rattle.contents.specs.Iinf.{Item, items}
@@ -33,11 +33,9 @@ use Rattle.contents.specs.File.{File, contents_of, file_of, read_file}
 use Rattle.contents.specs.Hdlr.{hdlr_form}
 use Rattle.contents.specs.Pitm.{pitm_form}
 use Rattle.contents.specs.Full.{full, between}
-use Rattle.contents.specs.inner.Told.{told_hdlr, told_pitm, told_full}
-use Rattle.contents.specs.declared.HdlrRead.TheVariants as hdlr-read
-use Rattle.contents.specs.declared.PitmRead.TheVariants as pitm-read
-use Rattle.contents.specs.declared.FullRead.TheVariants as full-read
-use Rattle.contents.proofs.FullLaws.{full-here, full_gone}
+use Rattle.contents.specs.inner.Told.{full_of, item_id}
+use Rattle.contents.specs.declared.Full as code
+use Rattle.contents.proofs.FullLaws.{full-here}
 use Rattle.forms.specs.Form.{whole, front}
 use Rattle.table.specs.declared.ItemId.{ItemId}
 use Rattle.rules.specs.Places.{Places, places_at, places_in}
@@ -45,14 +43,12 @@ use Rattle.rules.specs.Words.{head_words}
 use Rattle.table.specs.inner.Clear.{cleared}
 use Rattle.records.specs.inner.Raw.{raw_of}
 use Rattle.records.specs.inner.Stage.{Kept, Ready, with_items}
-use Rattle.items.specs.inner.Told.{told_items, ItemsLeft}
-use Rattle.items.specs.declared.ItemsRead.TheVariants as items-read
+use Rattle.items.specs.inner.Told.{ItemsLeft}
 use Rattle.items.proofs.ReadyLaws.{items-ready}
 use Rattle.reading.specs.inner.Parts.{
   kids,
   spots_in,
   Missing,
-  Has,
   Standing,
   Before,
   After,
@@ -67,30 +63,16 @@ use Rattle.reading.specs.inner.Parts.{
   read_words,
   left_by_reading,
 }
-use Rattle.reading.specs.declared.FileRead.{FileRead}
-use Rattle.reading.specs.declared.FileRead.TheVariants.{Is, Refused}
-use Rattle.reading.proofs.SpotLaws.{SpotIs, spot_is, boxes-all, boxes-joined}
+use Rattle.reading.specs.declared.Idat.{Idat}
+use Rattle.reading.proofs.SpotLaws.{SpotIs}
+use Rattle.reading.proofs.LastLaws.{seat, child_is}
 use Rattle.reading.proofs.TableLaws.{raw-unread}
-use Rattle.reading.proofs.ToldLaws.{
-  items-ok,
-  items_refused,
-  hdlr-ok,
-  hdlr-refused,
-  pitm-ok,
-  pitm-refused,
-  walk-ok,
-  walk_refused,
-  meta-ok,
-  meta-refused,
-  told-refused,
-}
-use Rattle.reading.proofs.StageLaws.{after-refused, after_same}
+use Rattle.reading.proofs.StageLaws.{after_same}
 use Rattle.reading.proofs.NamedLaws.{no_file}
 use Rattle.reading.proofs.ChainLaws.{items_gone, items-on, handler_gone, primary_gone, primary-on}
 use Rattle.reading.proofs.PartLaws.{contents_refused, contents_missing}
 use Rattle.reading.proofs.MetaLaws.{
   standing,
-  spots_in_lem,
   contents_kids,
   kids-all,
   file_gone,
@@ -102,26 +84,19 @@ use Rattle.reading.proofs.MetaLaws.{
   places_are,
 }
 
--- the spots of the children
-abbrev pub spot_at : List Spot → ℕ → Spot
-spot_at spots j = get_or spots j (record { start = 0; body = 0; end = 0 })
-
 -- the content of the child with a spot
 abbrev pub part_at : List ℕ → Spot → List ℕ
 part_at s p = take (p.end - p.body) (drop p.body s)
 
 module _ (s : List ℕ) (at : ℕ) (spots : List Spot) (st : Standing s spots) where
-  spot-here : (j k : ℕ) → spot_at spots j ≡ spot_of (where_of k 0 (kids s)) → Has k (kids s) → SpotIs s at k (kids s) (spot_at spots j)
-  spot-here j k e h = subst (SpotIs s at k (kids s)) (sym e) (spot_is s (kids s) (boxes-all s at spots st) (boxes-joined s at spots st) at k h)
+  pub hdlr-spot : SpotIs s at hdlr (kids s) (seat spots 0)
+  hdlr-spot = child_is s at spots st 0 hdlr (ap (λ (l : List Spot). seat l 0) st.spots_are) st.five.has_hdlr
 
-  pub hdlr-spot : SpotIs s at hdlr (kids s) (spot_at spots 0)
-  hdlr-spot = spot-here 0 hdlr (ap (λ (l : List Spot). spot_at l 0) st.spots_are) st.five.has_hdlr
+  pub pitm-spot : SpotIs s at pitm (kids s) (seat spots 1)
+  pitm-spot = child_is s at spots st 1 pitm (ap (λ (l : List Spot). seat l 1) st.spots_are) st.five.has_pitm
 
-  pub pitm-spot : SpotIs s at pitm (kids s) (spot_at spots 1)
-  pitm-spot = spot-here 1 pitm (ap (λ (l : List Spot). spot_at l 1) st.spots_are) st.five.has_pitm
-
-  pub iinf-spot : SpotIs s at iinf (kids s) (spot_at spots 2)
-  iinf-spot = spot-here 2 iinf (ap (λ (l : List Spot). spot_at l 2) st.spots_are) st.five.has_iinf
+  pub iinf-spot : SpotIs s at iinf (kids s) (seat spots 2)
+  iinf-spot = child_is s at spots st 2 iinf (ap (λ (l : List Spot). seat l 2) st.spots_are) st.five.has_iinf
 
 -- a child stands within the content
 pub spot-room : (s : List ℕ) (at k : ℕ) (bs : List (List ℕ)) (p : Spot) → SpotIs s at k bs p → at + length s ≤ 65536 →
@@ -136,9 +111,9 @@ module _ (s : List ℕ) (at : ℕ) (p : Spot) (i : SpotIs s at iinf (kids s) p) 
   items-same : items (at + p.start) (at + p.body) (part_at s p) ≡ items (place_of iinf at (kids s)) (begin_of at (kids s) iinf) (content_of at (kids s) iinf)
   items-same = rw (i.place, i.begin, i.part) refl
 
-  pub iinf-refused : (r : Refusal) (x u : List ℕ) → told_items (items (at + p.start) (at + p.body) (part_at s p)) ≡
-      items-read.Refused r → After s at total (from_items at (kids s) primary) (Refused r) x u
-  iinf-refused r x u e = after-refused s at total _ r x u (items_gone at (kids s) primary r (sym items-same ∙ items_refused _ r e))
+  pub iinf-refused : (r : Refusal) → told length (items (at + p.start) (at + p.body) (part_at s p)) ≡ Err r →
+      from_items at (kids s) primary ≡ refuse r.number r.place
+  iinf-refused r e = items_gone at (kids s) primary r (sym items-same ∙ told-refused _ _ r e)
 
   -- the stage of `iloc` begins
   pub record Begun (n : ℕ) (x u : List ℕ) : Type 0 where
@@ -148,10 +123,10 @@ module _ (s : List ℕ) (at : ℕ) (p : Spot) (i : SpotIs s at iinf (kids s) p) 
     pub read : items (at + p.start) (at + p.body) (part_at s p) ≡ ok list
 
   pub iinf_begins : (n : ℕ) (x t u : List ℕ) →
-      told_items (items (at + p.start) (at + p.body) (part_at s p)) ≡ items-read.Items n → t ≡ replicate 11280 0 ++ x →
+      told length (items (at + p.start) (at + p.body) (part_at s p)) ≡ Ok n → t ≡ replicate 11280 0 ++ x →
       ItemsLeft (part_at s p) (at + p.start) (at + p.body) t u → Begun n x u
   iinf_begins n x t u e w l =
-      let o = items-ok _ n e in
+      let o = told-ok _ _ n e in
       let q = o.1 in
       record {
         list = o.0;
@@ -164,7 +139,7 @@ module _ (s : List ℕ) (at : ℕ) (p : Spot) (i : SpotIs s at iinf (kids s) p) 
         read = q;
       }
 
-  pub iinf-after : (n : ℕ) (x u v : List ℕ) (r : FileRead) → Begun n x u →
+  pub iinf-after : (n : ℕ) (x u v : List ℕ) (r : Result Idat Refusal) → Begun n x u →
       ((is : List Item) (x : List ℕ) → Before s at n (with_items is) x u →
       After s at total (from_locations at (kids s) primary is) r x v) →
       After s at total (from_items at (kids s) primary) r x v
@@ -178,58 +153,58 @@ module _ (s : List ℕ) (at total : ℕ) (h p : Spot) (i : SpotIs s at hdlr (kid
   pitm-same : whole pitm_form (at + p.start) (part_at s p) ≡ whole pitm_form (place_of pitm at (kids s)) (content_of at (kids s) pitm)
   pitm-same = rw (j.place, j.part) refl
 
-  pub hdlr-refused-after : (r : Refusal) (x u : List ℕ) →
-      told_hdlr (front hdlr_form (at + h.start) (part_at s h)) ≡ hdlr-read.Refused r →
-      After s at total (from_handler at (kids s)) (Refused r) x u
-  hdlr-refused-after r x u e = after-refused s at total _ r x u (handler_gone at (kids s) r (sym hdlr-same ∙ hdlr-refused _ r e))
+  pub hdlr-refused : (r : Refusal) → told (λ (u : Unit {0}). u) (front hdlr_form (at + h.start) (part_at s h)) ≡ Err r →
+      from_handler at (kids s) ≡ refuse r.number r.place
+  hdlr-refused r e = handler_gone at (kids s) r (sym hdlr-same ∙ told-refused _ _ r e)
 
-  module _ (e : told_hdlr (front hdlr_form (at + h.start) (part_at s h)) ≡ hdlr-read.Pict) where
+  module _ (e : told (λ (u : Unit {0}). u) (front hdlr_form (at + h.start) (part_at s h)) ≡ Ok tt) where
     hdlr-is : front hdlr_form (place_of hdlr at (kids s)) (content_of at (kids s) hdlr) ≡ ok tt
-    hdlr-is = sym hdlr-same ∙ (hdlr-ok _ e).1
+    hdlr-is = sym hdlr-same ∙ (told-ok _ _ tt e).1
 
-    pub pitm-refused-after : (r : Refusal) (x u : List ℕ) →
-        told_pitm (whole pitm_form (at + p.start) (part_at s p)) ≡ pitm-read.Refused r →
-        After s at total (from_handler at (kids s)) (Refused r) x u
-    pitm-refused-after r x u q = after-refused s at total _ r x u (primary_gone at (kids s) hdlr-is r (sym pitm-same ∙ pitm-refused _ r q))
+    pub pitm-refused : (r : Refusal) → told item_id (whole pitm_form (at + p.start) (part_at s p)) ≡ Err r →
+        from_handler at (kids s) ≡ refuse r.number r.place
+    pitm-refused r q = primary_gone at (kids s) hdlr-is r (sym pitm-same ∙ told-refused _ _ r q)
 
-    pub pitm-on : (id : ItemId) → told_pitm (whole pitm_form (at + p.start) (part_at s p)) ≡ pitm-read.Primary id →
+    pub pitm-on : (id : ItemId) → told item_id (whole pitm_form (at + p.start) (part_at s p)) ≡ Ok id →
         from_handler at (kids s) ≡ from_items at (kids s) id.0
-    pitm-on id q = let o = pitm-ok _ id.0 q in primary-on at (kids s) hdlr-is id.0 (sym pitm-same ∙ o.1 ∙ ap ok o.2)
+    pitm-on id q = let o = told-ok _ _ id q in primary-on at (kids s) hdlr-is id.0 (sym pitm-same ∙ o.1 ∙ ap (λ (i : ItemId). ok i.0) o.2)
 
-    pub pitm-after : (id : ItemId) (r : FileRead) (x u : List ℕ) →
-        told_pitm (whole pitm_form (at + p.start) (part_at s p)) ≡ pitm-read.Primary id →
+    pub pitm-after : (id : ItemId) (r : Result Idat Refusal) (x u : List ℕ) →
+        told item_id (whole pitm_form (at + p.start) (part_at s p)) ≡ Ok id →
         After s at total (from_items at (kids s) id.0) r x u → After s at total (from_handler at (kids s)) r x u
     pitm-after id r x u q a = after_same s at total _ _ r x u (pitm-on id q) a
 
 -- contents_of
 module _ (p at total : ℕ) (s : List ℕ) where
-  pub walk-refused-after : (r : Refusal) (x u : List ℕ) → told_walk (children known p at s) ≡ walked.Refused r →
-      After s at total (contents_of p at s) (Refused r) x u
-  walk-refused-after r x u e = after-refused s at total _ r x u (contents_refused p at s _ _ (walk_refused _ r e))
+  pub walk-refused : (r : Refusal) → told spots_of (children known p at s) ≡ Err r → contents_of p at s ≡ refuse r.number r.place
+  walk-refused r e = contents_refused p at s _ _ (told-refused _ _ r e)
 
-  module _ (spots : List Spot) (e : told_walk (children known p at s) ≡ walked.Whole)
-      (q : spots ≡ spots_of (children known p at s)) (b : Bool)
+  module _ (spots : List Spot) (e : told spots_of (children known p at s) ≡ Ok spots) (b : Bool)
       (m : (bs : List (List ℕ)) → All IsBox bs → spots ≡ spots_in bs → Missing bs b) where
     abbrev found : List (List ℕ)
-    found = (walk-ok _ e).0
+    found = (told-ok _ _ spots e).0
 
     found-is : children known p at s ≡ ok found
-    found-is = (walk-ok _ e).1
+    found-is = (told-ok _ _ spots e).1
+
+    spots-are : spots ≡ spots_in found
+    unfolding spots_of
+    spots-are = sym (told-ok _ _ spots e).2
 
     missing_is : Missing found b
-    missing_is = m found (kids-all p at s found found-is) (spots_in_lem p at s found found-is spots (q ∙ ap spots_of found-is))
+    missing_is = m found (kids-all p at s found found-is) spots-are
 
-    pub missing_after : b ≡ true → (x u : List ℕ) → After s at total (contents_of p at s) (Refused (record { number = 7; place = p })) x u
-    missing_after t x u = let w : Missing found true = subst (Missing found) t missing_is in
-        after-refused s at total _ _ x u (contents_missing p at s found found-is w.0 w.1 w.2)
+    pub missing_refused : b ≡ true → contents_of p at s ≡ refuse 7 p
+    missing_refused t = let w : Missing found true = subst (Missing found) t missing_is in
+        contents_missing p at s found found-is w.0 w.1 w.2
 
     pub whole_standing : b ≡ false → Standing s spots
-    whole_standing t = standing p at s found found-is spots (q ∙ ap spots_of found-is) (subst (Missing found) t missing_is)
+    whole_standing t = standing p at s found found-is spots spots-are (subst (Missing found) t missing_is)
 
     pub whole_is : b ≡ false → contents_of p at s ≡ from_handler at (kids s)
     whole_is t = contents_kids p at s found found-is (subst (Missing found) t missing_is)
 
-    pub whole-after : b ≡ false → (r : FileRead) (x u : List ℕ) → After s at total (from_handler at (kids s)) r x u →
+    pub whole-after : b ≡ false → (r : Result Idat Refusal) (x u : List ℕ) → After s at total (from_handler at (kids s)) r x u →
         After s at total (contents_of p at s) r x u
     whole-after t r x u a = after_same s at total _ _ r x u (whole_is t) a
 
@@ -245,22 +220,20 @@ rest-room at s h l = let k = length-drop 4 s in let e = ap length (rest-is s) in
 
 -- file_of
 module _ (p at total : ℕ) (s : List ℕ) where
-  pub full-refused-after : (r : Refusal) (x u : List ℕ) →
-      told_full ((full (between 0 0)).read p s) ≡ full-read.Refused r →
-      After (drop 4 s) (at + 4) total (file_of p at s) (Refused r) x u
-  full-refused-after r x u e = after-refused (drop 4 s) (at + 4) total _ r x u (file_gone p at s r (full_gone _ p s _ _ e))
+  pub full-refused : (r : Refusal) → told full_of ((full (between 0 0)).read p s) ≡ Err r → file_of p at s ≡ refuse r.number r.place
+  full-refused r e = file_gone p at s r (told-refused _ _ r e)
 
-  module _ (v f : ℕ) (e : told_full ((full (between 0 0)).read p s) ≡ full-read.Is v f) where
+  module _ (v : code.Full) (e : told full_of ((full (between 0 0)).read p s) ≡ Ok v) where
     pub full-room : 4 ≤ length s
-    full-room = (full-here _ p s v f e).room
+    full-room = (full-here _ p s v e).room
 
     pub full_is : file_of p at s ≡ contents_of p (at + 4) (rest_of s)
-    full_is = file-here p at s v f (full-here _ p s v f e) ∙ ap (contents_of p (at + 4)) (sym (rest-is s))
+    full_is = file-here p at s v (full-here _ p s v e) ∙ ap (contents_of p (at + 4)) (sym (rest-is s))
 
-    pub full-after : (r : FileRead) (x u : List ℕ) → After (rest_of s) (at + 4) total (contents_of p (at + 4) (rest_of s))
+    pub full-after : (r : Result Idat Refusal) (x u : List ℕ) → After (rest_of s) (at + 4) total (contents_of p (at + 4) (rest_of s))
         r x u → After (drop 4 s) (at + 4) total (file_of p at s) r x u
     full-after r x u a =
-        subst (λ (m : Answer File). After (drop 4 s) (at + 4) total m r x u) (sym (file-here p at s v f (full-here _ p s v f e)))
+        subst (λ (m : Answer File). After (drop 4 s) (at + 4) total m r x u) (sym (file-here p at s v (full-here _ p s v e)))
         (subst (λ (y : List ℕ). After y (at + 4) total (contents_of p (at + 4) y) r x u) (rest-is s) a)
 
 -- FirstMeta: the content of `meta` in the head
@@ -295,35 +268,51 @@ meta-part total head m place f =
           (subst (λ (n : ℕ). take n (drop (length pre + head_of m) (pre ++ (m ++ f.behind))) ≡ body_of m) i (body-part pre m f.behind h)));
     }
 
--- told_file
-file-refused : (i : ℕ) (m : Answer File) (r : Refusal) → Refused r ≡ told_file i m → m ≡ refuse r.number r.place
-unfolding told_file
-file-refused i m r e = told-refused (told_file i) Refused (λ n p. refl) (λ r q e. cc)
-    (λ a r e. let z : ◌≡◌ {A = ℕ} 0 1 = cc in absurd (omega arith)) m r (sym e)
+-- ReadLeft: a refusal
+pub left-refused : (total : ℕ) (head : List ℕ) (r : Refusal) (x u : List ℕ) → read_file total head ≡ refuse r.number r.place →
+    ReadLeft total head (Err r) x u
+unfolding told
+left-refused total head r x u e =
+    record { answer = sym (ap (told_file (places_in total head).idat) e); left = λ g z. no_file _ _ _ e g z }
 
-file-ok : (i : ℕ) (m : Answer File) (a b : ℕ) → Is a b ≡ told_file i m → (g : File) × (m ≡ ok g)
-unfolding told_file
-file-ok i (ok g) a b e = (g, refl)
-file-ok i (refuse n p) a b e = let z : ◌≡◌ {A = ℕ} 0 1 = cc in absurd (omega arith)
+pub left-handed : (total : ℕ) (head : List ℕ) (y : Result Idat Refusal) (r : Refusal) (x u : List ℕ) → y ≡ Err r →
+    read_file total head ≡ refuse r.number r.place → ReadLeft total head y x u
+left-handed total head y r x u q e = subst (λ (z : Result Idat Refusal). ReadLeft total head z x u) (sym q) (left-refused total head r x u e)
 
 -- read_file
 module _ (total : ℕ) (head : List ℕ) (h : length head ≤ 65536) (k : length head ≤ total) where
-  pub meta-refused-left : (r : Refusal) (x u : List ℕ) → told_meta (meta_in total head) ≡ found-meta.Refused r → ReadLeft total head (Refused r) x u
-  unfolding told_file
-  meta-refused-left r x u q =
-      let e = read_gone total head h k r (meta-refused _ r q) in
-      record { answer = sym (ap (told_file (places_in total head).idat) e); left = λ g z. no_file _ _ _ e g z }
+  pub meta-refused : (r : Refusal) → told meta_spot (meta_in total head) ≡ Err r → read_file total head ≡ refuse r.number r.place
+  meta-refused r q = read_gone total head h k r (told-refused _ _ r q)
 
-  module _ (s b e : ℕ) (q : told_meta (meta_in total head) ≡ found-meta.At s b e) where
+  module _ (w : Spot) (q : told meta_spot (meta_in total head) ≡ Ok w) where
+    abbrev s : ℕ
+    s = w.start
+
+    abbrev b : ℕ
+    b = w.body
+
+    abbrev e : ℕ
+    e = w.end
+
     abbrev meta_box : Top.PlacedBox
-    meta_box = (meta-ok _ s b e q).0
+    meta_box = (told-ok _ _ w q).0
+
+    -- where it stands
+    spot-is : (meta_box.place ≡ s) × (meta_box.place + head_of meta_box.box ≡ b) × (meta_box.place + length meta_box.box ≡ e)
+    unfolding meta_spot
+    spot-is =
+        let o = (told-ok _ _ w q).2 in
+        (ap (λ (y : Spot). y.start) o, ap (λ (y : Spot). y.body) o, ap (λ (y : Spot). y.end) o)
+
+    meta-is : meta_in total head ≡ ok meta_box
+    meta-is = (told-ok _ _ w q).1
 
     pub meta-room : MetaPart head meta_box.box b e
     meta-room =
-        let o = meta-ok _ s b e q in
-        subst (MetaPart head meta_box.box b) o.4 (subst (λ (z : ℕ). MetaPart head meta_box.box z
-        (meta_box.place + length meta_box.box)) o.3 (meta-part total head meta_box.box meta_box.place
-        (meta-sound total head meta_box k o.1)))
+        let o = spot-is in
+        subst (MetaPart head meta_box.box b) o.2 (subst (λ (z : ℕ). MetaPart head meta_box.box z
+        (meta_box.place + length meta_box.box)) o.1 (meta-part total head meta_box.box meta_box.place
+        (meta-sound total head meta_box k meta-is)))
 
     pub meta-length : b + length (take (e - b) (drop b head)) ≤ 65536
     meta-length =
@@ -334,23 +323,23 @@ module _ (total : ℕ) (head : List ℕ) (h : length head ≤ 65536) (k : length
 
     pub meta-file : read_file total head ≡ file_of s b (take (e - b) (drop b head))
     meta-file =
-        let o = meta-ok _ s b e q in
+        let o = spot-is in
         let m = meta_box in
-        read-meta total head h k m o.1
-        ∙ ap (λ (z : ℕ). file_of z (m.place + head_of m.box) (body_of m.box)) o.2
-        ∙ ap (λ (z : ℕ). file_of s z (body_of m.box)) o.3
+        read-meta total head h k m meta-is
+        ∙ ap (λ (z : ℕ). file_of z (m.place + head_of m.box) (body_of m.box)) o.0
+        ∙ ap (λ (z : ℕ). file_of s z (body_of m.box)) o.1
         ∙ ap (file_of s b) (sym meta-room.part)
 
-    pub meta-left : (r : FileRead) (x u : List ℕ) → After (drop 4 (take (e - b) (drop b head))) (b + 4) total
+    pub meta-left : (r : Result Idat Refusal) (x u : List ℕ) → After (drop 4 (take (e - b) (drop b head))) (b + 4) total
         (file_of s b (take (e - b) (drop b head))) r x u → ReadLeft total head r x u
     meta-left r x u a =
-        let o = meta-ok _ s b e q in
+        let o = spot-is in
         let m = meta_box in
         let y = take (e - b) (drop b head) in
-        let w = meta-room.part in
-        let pl : places_in total head ≡ places_at (b + 4) (kids (drop 4 y)) = places_are total head m o.1 ∙
-        ap (λ (z : ℕ). places_at (z + 4) (kids (drop 4 (body_of m.box)))) o.3 ∙
-        ap (λ (z : List ℕ). places_at (b + 4) (kids (drop 4 z))) (sym w) in
+        let i = meta-room.part in
+        let pl : places_in total head ≡ places_at (b + 4) (kids (drop 4 y)) = places_are total head m meta-is ∙
+        ap (λ (z : ℕ). places_at (z + 4) (kids (drop 4 (body_of m.box)))) o.1 ∙
+        ap (λ (z : List ℕ). places_at (b + 4) (kids (drop 4 z))) (sym i) in
         let fl = meta-file in
         record {
           answer = a.answer ∙ ap (λ (l : Places). told_file l.idat (file_of s b y)) (sym pl) ∙ ap (told_file (places_in total head).idat) (sym fl);
@@ -380,17 +369,17 @@ module _ (t : List ℕ) (l : 11280 ≤ length t) where
 -- read_answer, read_words
 module _ (total : ℕ) (head t : List ℕ) where
   -- what read_file promises
-  abbrev pub Promised : FileRead → List ℕ → Type 0
+  abbrev pub Promised : Result Idat Refusal → List ℕ → Type 0
   Promised r u = (r ≡ read_answer (length t) total head) × (u ≡ read_words total head t)
 
-  pub table_short : length t < 11280 → Promised (Refused (record { number = 1; place = 0 })) t
-  unfolding read_answer told_file check ◌>>◌ read_words
+  pub table_short : length t < 11280 → Promised (Err (record { number = 1; place = 0 })) t
+  unfolding read_answer told check ◌>>◌ read_words
   table_short h =
       let e = lt-leb 11280 (length t) h in
       (rw e refl, sym (pick_no {t = leb 11280 (length t)} (left_by_reading total head t (read_file total head)) t e))
 
   module _ (l : 11280 ≤ length t) where
-    answer-is : (r : FileRead) → r ≡ told_file (places_in total head).idat (read_file total head) → r ≡ read_answer (length t) total head
+    answer-is : (r : Result Idat Refusal) → r ≡ told_file (places_in total head).idat (read_file total head) → r ≡ read_answer (length t) total head
     unfolding read_answer
     answer-is r e = e ∙ ap (told_file (places_in total head).idat) (sym (ok-then _ _ tt (ok-check 1 0 _ (le-leb 11280 (length t) l))))
 
@@ -398,28 +387,30 @@ module _ (total : ℕ) (head t : List ℕ) where
     unfolding read_words
     words_are = pick_yes {t = leb 11280 (length t)} (left_by_reading total head t (read_file total head)) t (le-leb 11280 (length t) l)
 
-    gone : (r : Refusal) (u : List ℕ) → read_file total head ≡ refuse r.number r.place → u ≡ replicate 11280 0 ++ drop 11280 t → Promised (Refused r) u
-    unfolding told_file left_by_reading
+    gone : (r : Refusal) (u : List ℕ) → read_file total head ≡ refuse r.number r.place → u ≡ replicate 11280 0 ++ drop 11280 t → Promised (Err r) u
+    unfolding told left_by_reading
     gone r u e w = (answer-is _ (sym (ap (told_file (places_in total head).idat) e)), w ∙ sym (words_are ∙ ap (left_by_reading total head t) e))
 
-    pub head_long : (u : List ℕ) → u ≡ cleared t → 65536 < length head → Promised (Refused (record { number = 2; place = 0 })) u
+    pub head_long : (u : List ℕ) → u ≡ cleared t → 65536 < length head → Promised (Err (record { number = 2; place = 0 })) u
     head_long u w h = gone _ u (read-long total head h) (w ∙ clear_is t l)
 
-    pub head_short : (u : List ℕ) → u ≡ cleared t → length head ≤ 65536 → total < length head → Promised (Refused (record { number = 2; place = 0 })) u
+    pub head_short : (u : List ℕ) → u ≡ cleared t → length head ≤ 65536 → total < length head → Promised (Err (record { number = 2; place = 0 })) u
     head_short u w h k = gone _ u (read_short total head h k) (w ∙ clear_is t l)
 
     -- t' the table cleared, u what reading left, v that cleared again
-    pub head_refused : (t' u v : List ℕ) (r : Refusal) (y : FileRead) → t' ≡ cleared t → Kept t' u →
-        ReadLeft total head y (drop 11280 t) u → y ≡ Refused r → v ≡ cleared u → Promised (Refused r) v
-    head_refused t' u v r y w k a q c =
+    pub head_refused : (t' u v : List ℕ) (y : Result Idat Refusal) → t' ≡ cleared t → Kept t' u → ReadLeft total head y (drop 11280 t) u →
+        is_err y ≡ true → v ≡ cleared u → Promised y v
+    head_refused t' u v (Err r) w k a e c =
         let n = ap length w in
         let m = clear_length t l in
-        let s = k.same_length in
+        let q = k.same_length in
         let p : drop 11280 u ≡ drop 11280 t = k.past ∙ ap (drop 11280) w ∙ clear_past t l in
-        gone r v (file-refused _ _ r (sym q ∙ a.answer)) (c ∙ clear_is u (omega arith) ∙ ap (λ (z : List ℕ). replicate 11280 0 ++ z) p)
+        gone r v (told-refused _ _ r (sym a.answer)) (c ∙ clear_is u (omega arith) ∙ ap (λ (z : List ℕ). replicate 11280 0 ++ z) p)
+    head_refused t' u v (Ok d) w k a e c = cc
 
-    pub head_read : (u : List ℕ) (i j : ℕ) (y : FileRead) → ReadLeft total head y (drop 11280 t) u → y ≡ Is i j → Promised (Is i j) u
+    pub head_read : (u : List ℕ) (y : Result Idat Refusal) → ReadLeft total head y (drop 11280 t) u → is_err y ≡ false → Promised y u
     unfolding left_by_reading
-    head_read u i j y a q =
-        let o = file-ok _ _ i j (sym q ∙ a.answer) in
-        (answer-is _ (sym q ∙ a.answer), a.left o.0 o.1 ∙ sym (words_are ∙ ap (left_by_reading total head t) o.1))
+    head_read u (Ok d) a e =
+        let o = told-ok _ _ d (sym a.answer) in
+        (answer-is _ a.answer, a.left o.0 o.1 ∙ sym (words_are ∙ ap (left_by_reading total head t) o.1))
+    head_read u (Err r) a e = cc

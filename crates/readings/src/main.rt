@@ -6,9 +6,6 @@
 
 ghost use Rattle.std.specs.Prelude.{◌<◌};
 
-use boxes::Refusal;
-use reading::FileRead;
-
 fn print_number(n: u64) {
     io::write_all(1, b"\t");
     io::print_decimal(1, n);
@@ -19,27 +16,21 @@ fn sum_of(table: &[u32]) -> u64
     ensures { result < 4294967296 }
 {
     let mut sum: u64 = 0;
-    let mut i: usize = 0;
-    while i < table.len() {
-        sum = heads::added(sum, table[i]);
-        i += 1;
+    for x in table {
+        sum = heads::added(sum, *x);
     }
     sum
 }
 
 fn print_answer(head: &[u8], total: u64, table: &mut [u32]) {
     let mut rows = [0u32; 2816];
-    let r = reading::read_file(head, total, table, &mut rows);
-    match r {
-        FileRead::Is {
-            idat: _,
-            idat_end: _,
-        } => {
+    match reading::read_file(head, total, table, &mut rows) {
+        Ok(_) => {
             io::write_all(1, b"read");
         }
-        FileRead::Refused(f) => {
+        Err(f) => {
             io::write_all(1, b"refused");
-            print_number(f.number as u64);
+            print_number(u64::from(f.number));
             print_number(f.place);
         }
     }
@@ -59,9 +50,7 @@ fn next_head(table: &mut [u32]) {
 fn main() {
     let count = heads::read_number();
     let mut table = heads::used_table();
-    let mut i: u32 = 0;
-    while i < count {
+    for _ in 0..count {
         next_head(&mut table);
-        i += 1;
     }
 }

@@ -32,9 +32,7 @@ fn next_file(table: &mut [u32]) {
 fn main() {
     let count = heads::read_number();
     let mut table = used_table();
-    let mut i: u32 = 0;
-    while i < count {
+    for _ in 0..count {
         next_file(&mut table);
-        i += 1;
     }
 }

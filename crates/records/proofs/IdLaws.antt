@@ -16,8 +16,7 @@ use Rattle.rules.specs.Places.{Places}
 use Rattle.table.specs.declared.ItemRow.{ItemRow}
 use Rattle.records.specs.inner.Raw.{raw_of}
 use Rattle.records.specs.inner.Rows.{id_at, ids_in, Distinct, FoundIs}
-use Rattle.records.specs.declared.FoundRow.{FoundRow}
-use Rattle.records.specs.declared.FoundRow.TheVariants.{At, Nothing}
+use Rattle.std.specs.Prelude.{Option, Some, None}
 use Rattle.records.proofs.MemberLaws.{member-none, distinct-place}
 use Rattle.records.proofs.RawLaws.{raw-id, ids-long}
 
@@ -47,16 +46,16 @@ module _ (t : List ℕ) (n id : ℕ) where
   pub row_listed : (r : ℕ) → r < n → id_at t r ≡ id → member id (ids_in t n) ≡ true
   row_listed r h e = let l = ids-length t n in member-at id (ids_in t n) r (omega arith) (ids_at t n r h ∙ e)
 
-  pub row_missing : FoundIs t n id Nothing → member id (ids_in t n) ≡ false
+  pub row_missing : FoundIs t n id None → member id (ids_in t n) ≡ false
   row_missing f = let l = ids-length t n in member-none id (ids_in t n) (λ k h e. let m : k < n = omega arith in f k m (sym (ids_at t n k m) ∙ e))
 
-  pub found-row : (x : FoundRow) (r : ItemRow) → FoundIs t n id x → x ≡ At r → (r.0 < n) × (id_at t r.0 ≡ id)
+  pub found-row : (x : Option ItemRow) (r : ItemRow) → FoundIs t n id x → x ≡ Some r → (r.0 < n) × (id_at t r.0 ≡ id)
   found-row x r f e = subst (FoundIs t n id) e f
 
-  pub found_some : (x : FoundRow) (r : ItemRow) → FoundIs t n id x → x ≡ At r → member id (ids_in t n) ≡ true
+  pub found_some : (x : Option ItemRow) (r : ItemRow) → FoundIs t n id x → x ≡ Some r → member id (ids_in t n) ≡ true
   found_some x r f e = let w = found-row x r f e in row_listed r.0 w.0 w.1
 
-  pub found_none : (x : FoundRow) → FoundIs t n id x → x ≡ Nothing → member id (ids_in t n) ≡ false
+  pub found_none : (x : Option ItemRow) → FoundIs t n id x → x ≡ None → member id (ids_in t n) ≡ false
   found_none x f e = row_missing (subst (FoundIs t n id) e f)
 
 -- Distinct: two rows with one ID are one

@@ -43,7 +43,7 @@ use Rattle.records.specs.inner.Raw.{
   raw_of,
 }
 use Rattle.records.specs.inner.Rows.{id_at, Distinct, FoundIs}
-use Rattle.records.specs.declared.FoundRow.TheVariants.{At, Nothing}
+use Rattle.std.specs.Prelude.{Some, None}
 use Rattle.table.specs.declared.ItemRow.{ItemRow}
 use Rattle.records.proofs.JoinLaws.{join_snoc, join-length, join-get_or, join-sets}
 use Rattle.records.proofs.MemberLaws.{member-none, none-member, distinct-place}
@@ -509,14 +509,14 @@ module _ (hw : List ℕ) (pl : Places) (x : List ℕ) (small : length hw ≤ 16)
   raw-located r h = raw_record r 11 h (omega arith) ∙ ap (λ (y : ℕ). pick (member y (located_in f.locations)) 1 0) (sym (id-at f.items r))
 
   -- FoundIs
-  pub found-listed : (id : ℕ) (row : ItemRow) → FoundIs (raw_of hw pl f ++ x) (length f.items) id (At row)
+  pub found-listed : (id : ℕ) (row : ItemRow) → FoundIs (raw_of hw pl f ++ x) (length f.items) id (Some row)
       → (member id (ids_of f.items) ≡ true) × (get_or (ids_of f.items) row.0 0 ≡ id)
   found-listed id row g =
       let e : get_or (ids_of f.items) row.0 0 ≡ id = sym (raw-id row.0 g.0) ∙ g.1 in
       let n = ids-long f.items in
       (member-at id (ids_of f.items) row.0 (omega arith) e, e)
 
-  pub found_nothing : (id : ℕ) → FoundIs (raw_of hw pl f ++ x) (length f.items) id Nothing → member id (ids_of f.items) ≡ false
+  pub found_nothing : (id : ℕ) → FoundIs (raw_of hw pl f ++ x) (length f.items) id None → member id (ids_of f.items) ≡ false
   found_nothing id g =
       let n = ids-long f.items in
       member-none id (ids_of f.items) (λ k l q. let m : k < length f.items = omega arith in g k m (raw-id k m ∙ q))

@@ -5,6 +5,7 @@ use mathlib.Core.Path.{◌≡◌, refl, sym, ap, ◌∙◌, subst}
 use mathlib.Core.List.{List, [], ◌++◌}
 use mathlib.Core.Bool.{Bool, true, false, not}
 use lib.ListN.{length, get_or, take, drop}
+use Rattle.std.specs.Prelude.{Result, Ok, Err}
 use lib.Dec.{eqb}
 use borrow.Author.Tests.{eqb-true, eq-eqb}
 use Rattle.fields.specs.Lists.{member}
@@ -14,7 +15,9 @@ use Rattle.boxes.specs.Children.{contain}
 use Rattle.boxes.specs.inner.Header.{child_at}
 use Rattle.boxes.specs.declared.Child.TheVariants as child
 use Rattle.boxes.specs.declared.Refusal.{Refusal}
+use Rattle.boxes.specs.Told.{told}
 use Rattle.boxes.proofs.AnswerLaws.{bind_ok, ok_inj}
+use Rattle.boxes.proofs.ToldLaws.{told-ok, told-refused}
 use Rattle.boxes.proofs.ContainLaws.{children_from, Stood, stood, from-box, from-bad, from_spare, from_end, stood_body}
 use Rattle.contents.specs.Iref.{Reference, IrefContent, no_references, referring_in, targets_in, with_derivation, with_link, kept_by, reference}
 use Rattle.contents.specs.File.{File}
@@ -27,27 +30,14 @@ use Rattle.contents.proofs.SumLaws.{targets-more}
 use Rattle.records.proofs.IdLaws.{ids-same}
 use Rattle.records.proofs.KeptLaws.{kept_same, kept_on}
 use Rattle.records.proofs.PickLaws.{named-same}
-use Rattle.references.specs.inner.Told.{told_references}
+use Rattle.references.specs.inner.Told.{target_count}
 use Rattle.references.specs.inner.Steps.{Marked, MarkedLinks, stepped, Stored, LinkStored, Added, Put, ChildrenLeft}
-use Rattle.references.specs.declared.ReferencesRead.{ReferencesRead}
-use Rattle.references.specs.declared.ReferencesRead.TheVariants as read
 use Rattle.references.proofs.LinkLaws.{link-marked, link-named}
 use Rattle.references.proofs.PutLaws.{iloc_no_dimg, kept-dimg, kept-link, kept-other}
 use Rattle.references.proofs.StoredLaws.{stored-ids, stored-marked, stored-raw}
 
--- told_references: what the code's value says
-pub references-refused : (a : Answer IrefContent) (r : Refusal) → told_references a ≡ read.Refused r → a ≡ refuse r.number r.place
-unfolding told_references
-references-refused (ok ds) r e = let z : ◌≡◌ {A = ℕ} 0 1 = cc in absurd (omega arith)
-references-refused (refuse n p) r e = let k : r ≡ record { number = n; place = p } = cc in rw k
-
-references_are : (a : Answer IrefContent) (k : ℕ) → told_references a ≡ read.Targets k → (c : IrefContent) × (a ≡ ok c) × (k ≡ targets_in c.derivations)
-unfolding told_references
-references_are (ok c) k e = let i : targets_in c.derivations ≡ k = cc in (c, refl, sym i)
-references_are (refuse n p) k e = let z : ◌≡◌ {A = ℕ} 0 1 = cc in absurd (omega arith)
-
 -- no type is both that are kept
-two_kinds : (kind : ℕ) → eqb kind dimg ≡ true → eqb kind iloc ≡ true → ◌≡◌ {A = ℕ} 0 1
+two_kinds : {P : Type 0} (kind : ℕ) → eqb kind dimg ≡ true → eqb kind iloc ≡ true → P
 two_kinds kind i j = let z : true ≡ false = sym i ∙ iloc_no_dimg kind (eqb-true kind iloc j) in cc
 
 -- raw_of goes by the derivations, not by the links
@@ -114,13 +104,13 @@ module _ (s : List ℕ) (w place base n : ℕ) (t v : List ℕ) where
       }
 
   -- what the code returns, u being the table and x the rows
-  abbrev pub Tells : List ℕ → List ℕ → ReferencesRead → Type 0
-  Tells u x r = (r ≡ told_references all_of) × ChildrenLeft all_of n t u v x
+  abbrev pub Tells : List ℕ → List ℕ → Result ℕ Refusal → Type 0
+  Tells u x r = (r ≡ told target_count all_of) × ChildrenLeft all_of n t u v x
 
-  refuses : (u x : List ℕ) (m q : ℕ) → Kept t u → all_of ≡ refuse m q → Tells u x (read.Refused (record { number = m; place = q }))
-  unfolding told_references
+  refuses : (u x : List ℕ) (m q : ℕ) → Kept t u → all_of ≡ refuse m q → Tells u x (Err (record { number = m; place = q }))
+  unfolding told
   refuses u x m q k e = (
-    sym (ap told_references e),
+    sym (ap (told target_count) e),
     record {
       kept = k;
       told = λ pl f y c r z o i. never c o;
@@ -129,20 +119,20 @@ module _ (s : List ℕ) (w place base n : ℕ) (t v : List ℕ) where
   )
     where
       never : {P : Type 0} (c : IrefContent) → all_of ≡ ok c → P
-      never c o = let y : refuse m q ≡ ok c = sym e ∙ o in let no_way : ◌≡◌ {A = ℕ} 0 1 = cc in absurd (omega arith)
+      never c o = cc
 
   module _ (u x : List ℕ) (at used : ℕ) (so : So u x at used) where
-    pub at-bad : child_at s at ≡ child.Bad → Tells u x (read.Refused (record { number = 3; place = base + at }))
+    pub at-bad : child_at s at ≡ child.Bad → Tells u x (Err (record { number = 3; place = base + at }))
     at-bad e = refuses u x 3 (base + at) so.kept (so.same ∙ from-bad s at (reference (ids_in t n) w) place base so.before e)
 
-    pub at_spare : child_at s at ≡ child.Spare → Tells u x (read.Refused (record { number = 3; place = place }))
+    pub at_spare : child_at s at ≡ child.Spare → Tells u x (Err (record { number = 3; place = place }))
     at_spare e = refuses u x 3 place so.kept (so.same ∙ from_spare s at (reference (ids_in t n) w) place base so.before e)
 
-    pub at-end : child_at s at ≡ child.End → Tells u x (read.Targets used)
-    unfolding told_references
+    pub at-end : child_at s at ≡ child.End → Tells u x (Ok used)
+    unfolding told
     at-end e =
         let a : all_of ≡ ok so.before = so.same ∙ from_end s at (reference (ids_in t n) w) place base so.before e in (
-          ap read.Targets so.count ∙ sym (ap told_references a),
+          ap Ok so.count ∙ sym (ap (told target_count) a),
           record {
             kept = so.kept;
             told = λ pl f y c r z o i. so.told pl f y r z i ∙
@@ -172,18 +162,18 @@ module _ (s : List ℕ) (w place base n : ℕ) (t v : List ℕ) where
           ∙ rw (there.its_kind, stood_body s at kind body end there)
 
       -- read into the table u' and the rows x'
-      module _ (u' x' : List ℕ) (keeps : Kept u u') (r : ReferencesRead)
+      module _ (u' x' : List ℕ) (keeps : Kept u u') (r : Result ℕ Refusal)
           (put : Put w kind (base + at) content n used so.before u u' x x' r) where
         answered : (a : Answer IrefContent) → stepped (ids_in u n) w kind (base + at) so.before content ≡ a →
             all_of ≡ (a >>= (λ ds. children_from (reference (ids_in t n) w) place base s end ds))
         answered a q = step ∙ rw (← ids-same t u n so.ids, q)
 
-        pub refused : (z : Refusal) → r ≡ read.Refused z → Tells u' x' (read.Refused z)
+        pub refused : (z : Refusal) → r ≡ Err z → Tells u' x' (Err z)
         unfolding ◌>>=◌
-        refused z q = refuses u' x' z.number z.place (kept_on t u u' so.kept keeps) (answered _ (references-refused _ z (sym put.answer ∙ q)))
+        refused z q = refuses u' x' z.number z.place (kept_on t u u' so.kept keeps) (answered _ (told-refused target_count _ z (sym put.answer ∙ q)))
 
         module _ (few : n ≤ 256) (room : 11280 ≤ length t) (wide : 2816 ≤ length x) (distinct : Distinct (ids_in t n)) (k : ℕ)
-            (q : r ≡ read.Targets k) where
+            (q : r ≡ Ok k) where
           apart : Distinct (ids_in u n)
           apart = rw (ids-same t u n so.ids) distinct
 
@@ -256,16 +246,16 @@ module _ (s : List ℕ) (w place base n : ℕ) (t v : List ℕ) where
           pub grown : So u' x' end k
           unfolding stepped
           grown =
-              let a = references_are _ k (sym put.answer ∙ q) in
+              let a = told-ok target_count _ k (sym put.answer ∙ q) in
               let b = bind_ok _ _ a.0 a.1 in
-              by a.0 (a.1, a.2) b.0 (put.added b.0 b.1) (ok_inj _ _ b.2) (eqb kind dimg) refl (eqb kind iloc) refl
+              by a.0 (a.1, sym a.2) b.0 (put.added b.0 b.1) (ok_inj _ _ b.2) (eqb kind dimg) refl (eqb kind iloc) refl
             where
               as_step : (c c' : IrefContent) → Step c → c' ≡ c → Step c'
               as_step c c' z i = subst Step (sym i) z
 
               by : (c : IrefContent) → Step c → (d : Reference) → Added kind n used so.before d u u' x x' →
                   kept_by kind so.before d ≡ c → (i : Bool) → eqb kind dimg ≡ i → (j : Bool) → eqb kind iloc ≡ j → So u' x' end k
-              by c z d a p true i true j = let o : ◌≡◌ {A = ℕ} 0 1 = two_kinds kind i j in absurd (omega arith)
+              by c z d a p true i true j = two_kinds kind i j
               by c z d a p true i false j = added d (a.stored i) (a.past j) (as_step c _ z (sym (kept-dimg kind so.before d i) ∙ p))
               by c z d a p false i true j = linked d (a.same i) (a.linked j) (as_step c _ z (sym (kept-link kind so.before d i j) ∙ p))
               by c z d a p false i false j = passed (a.same i) (a.past j) (as_step c _ z (sym (kept-other kind so.before d i j) ∙ p))

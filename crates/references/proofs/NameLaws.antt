@@ -3,18 +3,19 @@ use Prim.Native.Nat.{ℕ, ◌+◌, ◌-◌, ◌*◌, ◌<◌, ◌≤◌}
 use native.Mathlib.Nat.{eq-or-lt_of_le}
 use native.Mathlib.Omega.{arith}
 use mathlib.Core.Path.{◌≡◌, refl, sym, ap, ◌∙◌, subst}
-use mathlib.Core.List.{List, [], ◌∷◌}
+use mathlib.Core.List.{List}
 use mathlib.Core.Bool.{true}
 use mathlib.Core.Logic.{◌⊎◌, inl, inr, ⊎_elim}
-use lib.ListN.{length, get_or, set, replicate, length-replicate, get_or-replicate, replicate-append-replicate}
-use lib.Seq.{sets, get_or-set_same, get_or-set_other}
+use lib.ListN.{length, get_or, set, drop, replicate, length-replicate, length-take, length-drop, get_or-replicate}
+use lib.Seq.{sets, sets-eq, take-length, get_or-set_same, get_or-set_other}
+use borrow.Rule.Slice.PartMut.{put_mid, mid_of}
+use Rattle.std.proofs.lemmas.Slice.{put_mid-paste}
+use Rattle.std.specs.Prelude.{None}
 use Rattle.fields.specs.Lists.{member}
 use Rattle.fields.proofs.TestLaws.{untrue}
 use Rattle.records.specs.inner.Rows.{id_at, ids_in, FoundIs}
-use Rattle.records.specs.declared.FoundRow.{FoundRow}
-use Rattle.records.specs.declared.FoundRow.TheVariants.{Nothing}
-use Rattle.records.proofs.IdLaws.{found_none}
-use Rattle.records.proofs.SetsLaws.{sets-above, sets_in, sets_append}
+use Rattle.records.proofs.IdLaws.{row_missing}
+use Rattle.records.proofs.SetsLaws.{sets-above, sets_in}
 use Rattle.references.specs.inner.Steps.{PickedBy, NamedFrom, NamesPut}
 
 -- where a target of w bytes stands
@@ -40,17 +41,21 @@ picked-at t n k target mark l m r h q = (
 )
 
 -- a target that is listed is found
-pub picked_missing : {P : Type 0} (t : List ℕ) (n id target : ℕ) (f : FoundRow) → FoundIs t n id f → f ≡ Nothing → id ≡ target →
+pub picked_missing : {P : Type 0} (t : List ℕ) (n id target : ℕ) → FoundIs t n id None → id ≡ target →
     member target (ids_in t n) ≡ true → P
-picked_missing t n id target f g e q l = untrue (sym (found_none t n id f g e) ∙ ap (λ (i : ℕ). member i (ids_in t n)) q ∙ l)
+picked_missing t n id target g q l = untrue (sym (row_missing t n id g) ∙ ap (λ (i : ℕ). member i (ids_in t n)) q ∙ l)
 
--- the marks are cleared one after another
-pub clear_more : (l r : List ℕ) (k : ℕ) → r ≡ sets l 2048 (replicate k 0) → set r (2048 + k) 0 ≡ sets l 2048 (replicate (k + 1) 0)
-clear_more l r k e =
-    ap (λ (a : List ℕ). set a (2048 + k) 0) e
-    ∙ ap (λ (i : ℕ). set (sets l 2048 (replicate k 0)) (2048 + i) 0) (sym (length-replicate k 0))
-    ∙ sym (sets_append (replicate k 0) (0 ∷ []) l 2048)
-    ∙ ap (sets l 2048) (replicate-append-replicate k 1 0)
+-- a part that is overwritten
+pub part_set : (l ys : List ℕ) (a k : ℕ) → a + k ≤ length l → length ys ≡ k → put_mid a k l ys ≡ sets l a ys
+part_set l ys a k h e =
+    put_mid-paste a k l ys ys (length ys) refl e refl ∙ rw (take-length ys) (sym (sets-eq ys l a (omega arith)))
+
+-- the marks, cleared
+pub cleared : (l ys : List ℕ) (a k : ℕ) → a + k ≤ length l → ys ≡ replicate (length (mid_of a k l)) 0 → put_mid a k l ys ≡ sets l a (replicate k 0)
+cleared l ys a k h e =
+    let q : length (mid_of a k l) ≡ k = omega (arith, length-take k (drop a l), length-drop a l) in
+    let i : ys ≡ replicate k 0 = rw q at e in
+    part_set l ys a k h (ap length i ∙ length-replicate k 0) ∙ ap (sets l a) i
 
 -- all 256
 module _ (l r : List ℕ) (m : ℕ) (few : m ≡ 256) (e : r ≡ sets l 2048 (replicate m 0)) where

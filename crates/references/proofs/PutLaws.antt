@@ -5,6 +5,7 @@ use mathlib.Core.Path.{◌≡◌, refl, sym, ap, ◌∙◌, subst}
 use mathlib.Core.List.{List, [], ◌∷◌}
 use mathlib.Core.Bool.{Bool, true, false, not, ◌&&◌, ◌||◌}
 use lib.ListN.{length, get_or, set}
+use Rattle.std.specs.Prelude.{Result, Ok, Err, None}
 use lib.Seq.{sets}
 use lib.Dec.{leb, eqb}
 use borrow.Author.Tests.{eqb-true, eq-eqb, ne_eqb, le-leb, lt-leb}
@@ -15,19 +16,19 @@ use Rattle.fields.proofs.FieldLaws.{pick_yes, pick_no}
 use Rattle.boxes.specs.Answer.{Answer, ok, refuse, ◌>>=◌}
 use Rattle.boxes.specs.Types.{dimg, iloc}
 use Rattle.boxes.specs.declared.Refusal.{Refusal}
+use Rattle.boxes.specs.Told.{told}
 use Rattle.boxes.proofs.AnswerLaws.{ok_inj}
+use Rattle.boxes.proofs.ToldLaws.{told-ok, told-refused}
 use Rattle.forms.specs.Form.{whole}
 use Rattle.contents.specs.Iref.{Reference, IrefContent, referring_in, referring_by, targets_in, reference_form, with_derivation, with_link, kept_by}
 use Rattle.records.specs.inner.Rows.{id_at, ids_in, FoundIs}
 use Rattle.records.specs.inner.Stage.{Kept}
-use Rattle.records.specs.declared.FoundRow.TheVariants.{Nothing}
 use Rattle.contents.proofs.SumLaws.{targets-more}
 use Rattle.records.proofs.IdLaws.{row_listed, row_missing}
 use Rattle.records.proofs.KeptLaws.{kept_on, kept_sets}
-use Rattle.references.specs.inner.Told.{told_references}
 use Rattle.references.specs.inner.Steps.{
   targets_from,
-  told_targets,
+  no_value,
   TargetsLeft,
   purpose_of,
   Marked,
@@ -40,26 +41,12 @@ use Rattle.references.specs.inner.Steps.{
 }
 use Rattle.references.specs.declared.Purpose.{Purpose}
 use Rattle.references.specs.declared.Purpose.TheVariants.{Derives, Places, Other}
-use Rattle.references.specs.declared.ReferencesRead.{ReferencesRead}
-use Rattle.references.specs.declared.ReferencesRead.TheVariants as read
-use Rattle.references.specs.declared.TargetsPut.TheVariants as targets
 use Rattle.references.proofs.TargetLaws.{ReadFrom, targets-read}
 use Rattle.references.proofs.NameLaws.{names_as}
 use Rattle.references.proofs.ReferenceLaws.{source_cut, source_unlisted, source_twice, count_cut, count_none, count-over, count-targets}
 
--- told_targets: what the code's value says of the bytes
-told-refused : (a : Answer (List ℕ)) (r : Refusal) → told_targets a ≡ targets.Refused r → a ≡ refuse r.number r.place
-unfolding told_targets
-told-refused (ok ts) r e = let z : ◌≡◌ {A = ℕ} 0 1 = cc in absurd (omega arith)
-told-refused (refuse n p) r e = let k : r ≡ record { number = n; place = p } = cc in rw k
-
-told-done : (a : Answer (List ℕ)) → told_targets a ≡ targets.Done → (ts : List ℕ) × (a ≡ ok ts)
-unfolding told_targets
-told-done (ok ts) e = (ts, refl)
-told-done (refuse n p) e = let z : ◌≡◌ {A = ℕ} 0 1 = cc in absurd (omega arith)
-
 pub never_both : {P : Type 0} (b : Bool) → b ≡ true → b ≡ false → P
-never_both b y z = let i : true ≡ false = sym y ∙ z in let j : ◌≡◌ {A = ℕ} 0 1 = cc in absurd (omega arith)
+never_both b y z = cc
 
 -- purpose_of, by the tests of the code
 pub purpose_dimg : (kind : ℕ) → kind ≡ dimg → Derives ≡ purpose_of kind
@@ -127,17 +114,17 @@ module _ (kind : ℕ) (before : IrefContent) where
 -- Put, by what the form gives
 module _ (w kind p : ℕ) (s : List ℕ) (n used : ℕ) (before : IrefContent) (t u v x : List ℕ) where
   put_refused : (m q : ℕ) → whole (reference_form (ids_in t n) w kind before) p s ≡ refuse m q →
-      Put w kind p s n used before t u v x (read.Refused (record { number = m; place = q }))
-  unfolding stepped told_references ◌>>=◌
+      Put w kind p s n used before t u v x (Err (record { number = m; place = q }))
+  unfolding stepped told ◌>>=◌
   put_refused m q e =
       record {
         answer = rw e;
-        added = λ d o. let y : refuse m q ≡ ok d = sym e ∙ o in let z : ◌≡◌ {A = ℕ} 0 1 = cc in absurd (omega arith);
+        added = λ d o. cc;
       }
 
   put-added : (d : Reference) → whole (reference_form (ids_in t n) w kind before) p s ≡ ok d →
-      (m : ℕ) → m ≡ targets_in (kept_by kind before d).derivations → Added kind n used before d t u v x → Put w kind p s n used before t u v x (read.Targets m)
-  unfolding stepped told_references ◌>>=◌
+      (m : ℕ) → m ≡ targets_in (kept_by kind before d).derivations → Added kind n used before d t u v x → Put w kind p s n used before t u v x (Ok m)
+  unfolding stepped told ◌>>=◌
   put-added d e m c a =
       record {
         answer = rw (e, c);
@@ -146,14 +133,14 @@ module _ (w kind p : ℕ) (s : List ℕ) (n used : ℕ) (before : IrefContent) (
 
 module _ (t : List ℕ) (n w p used : ℕ) (s : List ℕ) (kind : ℕ) (before : IrefContent) (count : used ≡ targets_in before.derivations) where
   -- what the code returns, u being the table and v and x the rows
-  abbrev pub Puts : List ℕ → List ℕ → List ℕ → ReferencesRead → Type 0
+  abbrev pub Puts : List ℕ → List ℕ → List ℕ → Result ℕ Refusal → Type 0
   Puts u v x r = Put w kind p s n used before t u v x r
 
-  pub put_source_cut : length s < w → (u v x : List ℕ) → Puts u v x (read.Refused (record { number = 8; place = p }))
+  pub put_source_cut : length s < w → (u v x : List ℕ) → Puts u v x (Err (record { number = 8; place = p }))
   put_source_cut l u v x = put_refused w kind p s n used before t u v x 8 p (source_cut (ids_in t n) w kind before p s l)
 
   module _ (l : w ≤ length s) (id : ℕ) (e : id ≡ be_at s 0 w) where
-    pub put_source_unlisted : FoundIs t n id Nothing → (u v x : List ℕ) → Puts u v x (read.Refused (record { number = 11; place = p }))
+    pub put_source_unlisted : FoundIs t n id None → (u v x : List ℕ) → Puts u v x (Err (record { number = 11; place = p }))
     put_source_unlisted g u v x =
         put_refused w kind p s n used before t u v x 11 p (source_unlisted (ids_in t n) w kind before p s l (rw (← e) (row_missing t n id g)))
 
@@ -175,7 +162,7 @@ module _ (t : List ℕ) (n w p used : ℕ) (s : List ℕ) (kind : ℕ) (before :
       unfolding purpose_of referring_by
       second_is = ap (λ (a : Purpose). second_by a t v row) e ∙ second-by (eqb kind dimg) (eqb kind iloc)
 
-      pub put_source_twice : second_by q t v row ≡ true → (u x : List ℕ) → Puts u v x (read.Refused (record { number = 10; place = p }))
+      pub put_source_twice : second_by q t v row ≡ true → (u x : List ℕ) → Puts u v x (Err (record { number = 10; place = p }))
       put_source_twice y u x =
           put_refused w kind p s n used before t u v x 10 p (source_twice (ids_in t n) w kind before p s l listed (sym second_is ∙ y))
 
@@ -183,7 +170,7 @@ module _ (t : List ℕ) (n w p used : ℕ) (s : List ℕ) (kind : ℕ) (before :
       source_fresh y = sym second_is ∙ y
 
     module _ (fresh : member (be_at s 0 w) (referring_by kind before) ≡ false) where
-      pub put-count-cut : length s < w + 2 → (u v x : List ℕ) → Puts u v x (read.Refused (record { number = 8; place = p }))
+      pub put-count-cut : length s < w + 2 → (u v x : List ℕ) → Puts u v x (Err (record { number = 8; place = p }))
       put-count-cut h u v x = put_refused w kind p s n used before t u v x 8 p (count_cut (ids_in t n) w kind before p s l listed fresh h)
 
       module _ (h : w + 2 ≤ length s) (k : ℕ) (e : k ≡ be_at s w 2) where
@@ -199,10 +186,10 @@ module _ (t : List ℕ) (n w p used : ℕ) (s : List ℕ) (kind : ℕ) (before :
               whole (reference_form (ids_in t n) w kind before) p s ≡ (a >>= (λ ts. ok (itself ts)))
           by-targets a q = count-targets (ids_in t n) w kind before p s l listed fresh h k e some fits ∙ rw q
 
-          put-targets-refused : (r : Refusal) → told_targets its_targets ≡ targets.Refused r → (u v x : List ℕ) → Puts u v x (read.Refused r)
+          put-targets-refused : (r : Refusal) → told no_value its_targets ≡ Err r → (u v x : List ℕ) → Puts u v x (Err r)
           unfolding ◌>>=◌
           put-targets-refused r q u v x =
-              put_refused w kind p s n used before t u v x r.number r.place (by-targets _ (told-refused its_targets r q))
+              put_refused w kind p s n used before t u v x r.number r.place (by-targets _ (told-refused no_value its_targets r q))
 
           targets-done : (ts : List ℕ) → its_targets ≡ ok ts → whole (reference_form (ids_in t n) w kind before) p s ≡ ok (itself ts)
           unfolding ◌>>=◌
@@ -210,12 +197,12 @@ module _ (t : List ℕ) (n w p used : ℕ) (s : List ℕ) (kind : ℕ) (before :
 
         -- a reference of another type than `dimg`
         module _ (y : eqb kind dimg ≡ false) where
-          pub pass_refused : (r : Refusal) → told_targets its_targets ≡ targets.Refused r → (u v x : List ℕ) → Puts u v x (read.Refused r)
+          pub pass_refused : (r : Refusal) → told no_value its_targets ≡ Err r → (u v x : List ℕ) → Puts u v x (Err r)
           pass_refused r q u v x = put-targets-refused (rw y) (rw y) r q u v x
 
-          pub pass_done : eqb kind iloc ≡ false → told_targets its_targets ≡ targets.Done → (u v x : List ℕ) → u ≡ t → x ≡ v → Puts u v x (read.Targets used)
+          pub pass_done : eqb kind iloc ≡ false → told no_value its_targets ≡ Ok tt → (u v x : List ℕ) → u ≡ t → x ≡ v → Puts u v x (Ok used)
           pass_done z q u v x same rows =
-              let d = told-done its_targets q in
+              let d = told-ok no_value its_targets tt q in
               put-added w kind p s n used before t u v x _ (targets-done (rw y) (rw y) d.0 d.1) used
               (count ∙ sym (ap (λ (c : IrefContent). targets_in c.derivations) (kept-other kind before (itself d.0) y z)))
               (record {
@@ -226,11 +213,11 @@ module _ (t : List ℕ) (n w p used : ℕ) (s : List ℕ) (kind : ℕ) (before :
               })
 
           -- an `iloc`
-          pub link-done : eqb kind iloc ≡ true → told_targets its_targets ≡ targets.Done → (u v x : List ℕ) → u ≡ t → k < 65536 →
+          pub link-done : eqb kind iloc ≡ true → told no_value its_targets ≡ Ok tt → (u v x : List ℕ) → u ≡ t → k < 65536 →
               member (be_at s 0 w) (referring_in before.links) ≡ false →
-              NamesPut t n k (λ j. be_at s (w + 2 + w * j) w) row (set v (2048 + row) 1) x → Puts u v x (read.Targets used)
+              NamesPut t n k (λ j. be_at s (w + 2 + w * j) w) row (set v (2048 + row) 1) x → Puts u v x (Ok used)
           link-done z q u v x same few new names =
-              let d = told-done its_targets q in
+              let d = told-ok no_value its_targets tt q in
               let r = targets-read (ids_in t n) w k p s (w + 2) d.0 h d.1 in
               let m : length d.0 ≡ k = omega (arith, r.count) in
               put-added w kind p s n used before t u v x _ (targets-done (rw y) (rw y) d.0 d.1) used
@@ -255,7 +242,7 @@ module _ (t : List ℕ) (n w p used : ℕ) (s : List ℕ) (kind : ℕ) (before :
 
         -- a `dimg`
         module _ (y : eqb kind dimg ≡ true) where
-          pub dimg-none : k ≡ 0 → (u v x : List ℕ) → Puts u v x (read.Refused (record { number = 10; place = p }))
+          pub dimg-none : k ≡ 0 → (u v x : List ℕ) → Puts u v x (Err (record { number = 10; place = p }))
           dimg-none z u v x = put_refused w kind p s n used before t u v x 10 p
               (count_none (ids_in t n) w kind before p s l listed fresh h k e (rw (y, eq-eqb k 0 z)))
 
@@ -263,7 +250,7 @@ module _ (t : List ℕ) (n w p used : ℕ) (s : List ℕ) (kind : ℕ) (before :
             some_is : (eqb kind dimg && eqb k 0) ≡ false
             some_is = rw (y, ne_eqb k 0 some)
 
-            pub dimg-over : 2048 < used + k → (u v x : List ℕ) → Puts u v x (read.Refused (record { number = 9; place = p }))
+            pub dimg-over : 2048 < used + k → (u v x : List ℕ) → Puts u v x (Err (record { number = 9; place = p }))
             dimg-over z u v x =
                 put_refused w kind p s n used before t u v x 9 p
                 (count-over (ids_in t n) w kind before p s l listed fresh h k e some_is
@@ -273,16 +260,16 @@ module _ (t : List ℕ) (n w p used : ℕ) (s : List ℕ) (kind : ℕ) (before :
               fits-is : (not (eqb kind dimg) || leb (targets_in before.derivations + k) 2048) ≡ true
               fits-is = rw (y, le-leb (targets_in before.derivations + k) 2048 (omega arith))
 
-              pub dimg-refused : (r : Refusal) → told_targets its_targets ≡ targets.Refused r → (u v x : List ℕ) → Puts u v x (read.Refused r)
+              pub dimg-refused : (r : Refusal) → told no_value its_targets ≡ Err r → (u v x : List ℕ) → Puts u v x (Err r)
               dimg-refused r q u v x = put-targets-refused some_is fits-is r q u v x
 
               pub dimg-done : eqb kind iloc ≡ false → member (be_at s 0 w) (referring_in before.derivations) ≡ false →
-                  told_targets its_targets ≡ targets.Done → (u o v x : List ℕ) →
+                  told no_value its_targets ≡ Ok tt → (u o v x : List ℕ) →
                   TargetsLeft its_targets k true used t u → o ≡ sets u (16 + 16 * row + 5) (used ∷ k ∷ []) →
-                  ((i : ℕ) → 2048 ≤ i → get_or x i 0 ≡ get_or v i 0) → Puts o v x (read.Targets (used + k))
+                  ((i : ℕ) → 2048 ≤ i → get_or x i 0 ≡ get_or v i 0) → Puts o v x (Ok (used + k))
               unfolding pick
               dimg-done z new q u o v x left is past =
-                  let d = told-done its_targets q in
+                  let d = told-ok no_value its_targets tt q in
                   let a = left.told d.0 d.1 in
                   let m = a.0 in
                   put-added w kind p s n used before t o v x _ (targets-done some_is fits-is d.0 d.1) (used + k)
@@ -309,10 +296,10 @@ module _ (t : List ℕ) (n w p used : ℕ) (s : List ℕ) (kind : ℕ) (before :
                   })
 
 -- the targets of a reference are all in its content, and listed
-pub targets-listed : (ids : List ℕ) (w k p : ℕ) (s : List ℕ) → w + 2 ≤ length s → told_targets (targets_from ids w k p s (w + 2)) ≡ targets.Done
+pub targets-listed : (ids : List ℕ) (w k p : ℕ) (s : List ℕ) → w + 2 ≤ length s → told no_value (targets_from ids w k p s (w + 2)) ≡ Ok tt
     → (w + 2 + w * k ≤ length s) × ((j : ℕ) → j < k → member (be_at s (w + 2 + w * j) w) ids ≡ true)
 targets-listed ids w k p s h q =
-    let d = told-done _ q in
+    let d = told-ok no_value _ tt q in
     let r = targets-read ids w k p s (w + 2) d.0 h d.1 in
     (r.inside, r.listed)
 
@@ -321,7 +308,7 @@ pub kept-span : (t u v : List ℕ) (row a b : ℕ) → row < 256 → Kept t u �
 kept-span t u v row a b h k e = kept_on t u v k (subst (Kept u) (sym e) (kept_sets u (16 + 16 * row + 5) (a ∷ b ∷ []) (omega arith)))
 
 -- a purpose that is known by name: the type that it stands for
-module _ (q : Purpose) (w kind p : ℕ) (s : List ℕ) (n used : ℕ) (before : IrefContent) (t u v x : List ℕ) (r : ReferencesRead)
+module _ (q : Purpose) (w kind p : ℕ) (s : List ℕ) (n used : ℕ) (before : IrefContent) (t u v x : List ℕ) (r : Result ℕ Refusal)
     (e : q ≡ purpose_of kind) (fresh : member (be_at s 0 w) (referring_by kind before) ≡ false) where
   pub as_dimg : q ≡ Derives → (member (be_at s 0 w) (referring_in before.derivations) ≡ false → Put w dimg p s n used before t u v x r)
       → Put w kind p s n used before t u v x r

@@ -7,16 +7,14 @@ use mathlib.Core.List.{List, [], ◌∷◌}
 use mathlib.Core.Bool.{Bool, true, false}
 use mathlib.Core.Logic.{⊎_elim}
 use lib.ListN.{length, get_or}
+use Rattle.std.specs.Prelude.{Result, Ok, Err, Some}
 use lib.Seq.{sets, length-sets, get_or-set_same}
 use native.Mathlib.Decide.{dec_le}
 use Rattle.fields.specs.Choice.{pick}
 use Rattle.boxes.specs.declared.Refusal.{Refusal}
 use Rattle.records.specs.inner.Rows.{id_at, FoundIs, RowedTo}
-use Rattle.records.specs.declared.FoundRow.TheVariants.{At}
 use Rattle.records.proofs.SetsLaws.{sets_below, sets-above}
 use Rattle.table.specs.declared.ItemRow.{ItemRow}
-use Rattle.references.specs.declared.ReferencesRead.TheVariants as read
-use Rattle.references.specs.declared.TargetsPut.TheVariants as targets
 
 module _ (n m : ℕ) (few : n ≤ 256) (t v : List ℕ) (rowed : RowedTo n m t v) where
   -- one more target, and the row with its ID
@@ -82,7 +80,7 @@ module _ (n used : ℕ) (keep : Bool) (t v : List ℕ) where
 
   module _ (j : ℕ) (u x : List ℕ) (so : Beside n used keep t v j u x) where
     pub beside_more : n ≤ 256 → 11280 ≤ length u → 2048 ≤ length v → (keep ≡ true → used + j < 2048) →
-        (id : ℕ) (row : ItemRow) → FoundIs u n id (At row) → (u' x' : List ℕ) →
+        (id : ℕ) (row : ItemRow) → FoundIs u n id (Some row) → (u' x' : List ℕ) →
         u' ≡ sets u (7184 + used + j) (pick keep (id ∷ []) []) → x' ≡ sets x (used + j) (pick keep (row.0 ∷ []) []) →
         Beside n used keep t v (j + 1) u' x'
     unfolding pick
@@ -104,35 +102,39 @@ module _ (n used : ℕ) (keep : Bool) (t v : List ℕ) where
 
     -- what the code promises of the rows: a refusal promises nothing more than the other references
     pub beside_refused : (k : ℕ) (z : Refusal) → (keep ≡ false → x ≡ v) ×
-        (keep ≡ true → targets.Refused z ≡ targets.Done → RowedTo n used t v → RowedTo n (used + k) u x) ×
+        (keep ≡ true → ◌≡◌ {A = Result (Unit {0}) Refusal} (Err z) (Ok tt) → RowedTo n used t v → RowedTo n (used + k) u x) ×
         ((i : ℕ) → 2048 ≤ i → get_or x i 0 ≡ get_or v i 0)
-    beside_refused k z = (so.other, λ y e. let no_way : ◌≡◌ {A = ℕ} 0 1 = cc in absurd (omega arith), so.above)
+    beside_refused k z = (so.other, λ y e. cc, so.above)
 
     pub beside_done : (k : ℕ) → k ≤ j → (keep ≡ false → x ≡ v) ×
-        (keep ≡ true → targets.Done ≡ targets.Done → RowedTo n used t v → RowedTo n (used + k) u x) ×
+        (keep ≡ true → ◌≡◌ {A = Result (Unit {0}) Refusal} (Ok tt) (Ok tt) → RowedTo n used t v → RowedTo n (used + k) u x) ×
         ((i : ℕ) → 2048 ≤ i → get_or x i 0 ≡ get_or v i 0)
     beside_done k h = (so.other, λ y e r i l. so.rowed y r i (omega arith), so.above)
 
 -- what the code promises of the rows after a reference, which has m targets behind it: nothing where it refuses
-pub no_targets : {P : Type 0} (z : Refusal) (m : ℕ) → read.Refused z ≡ read.Targets m → P
-no_targets z m e = let no_way : ◌≡◌ {A = ℕ} 0 1 = cc in absurd (omega arith)
+pub no_targets : {P : Type 0} (z : Refusal) (m : ℕ) → ◌≡◌ {A = Result ℕ Refusal} (Err z) (Ok m) → P
+no_targets z m e = cc
 
-rowed_as : (n k m : ℕ) (u x : List ℕ) → read.Targets k ≡ read.Targets m → RowedTo n k u x → RowedTo n m u x
+-- the code answers k, and m
+abbrev Answers : ℕ → ℕ → Type 0
+Answers k m = ◌≡◌ {A = Result ℕ Refusal} (Ok k) (Ok m)
+
+rowed_as : (n k m : ℕ) (u x : List ℕ) → Answers k m → RowedTo n k u x → RowedTo n m u x
 rowed_as n k m u x e r = let i : k ≡ m = cc in rw (← i) r
 
 -- a reference of another type leaves table and rows as they are
-pub rowed_passed : (n used : ℕ) (t u v x : List ℕ) → u ≡ t → x ≡ v → (m : ℕ) → read.Targets used ≡ read.Targets m → RowedTo n used t v → RowedTo n m u x
+pub rowed_passed : (n used : ℕ) (t u v x : List ℕ) → u ≡ t → x ≡ v → (m : ℕ) → Answers used m → RowedTo n used t v → RowedTo n m u x
 rowed_passed n used t u v x e q m i r = rowed_as n used m u x i (rw (e, q) r)
 
 -- a `dimg`: its targets, whose rows are beside them in the table u, then its span
 pub rowed_stored : (n used k row : ℕ) → n ≤ 256 → row < 256 → (t u w v x : List ℕ) →
     w ≡ sets u (16 + 16 * row + 5) (used ∷ k ∷ []) → (RowedTo n used t v → RowedTo n (used + k) u x) → (m : ℕ) →
-    read.Targets (used + k) ≡ read.Targets m → RowedTo n used t v → RowedTo n m w x
+    Answers (used + k) m → RowedTo n used t v → RowedTo n m w x
 rowed_stored n used k row few h t u w v x e f m i r = rowed_as n (used + k) m w x i (rowed_span n (used + k) few u x (f r) row used k h w e)
 
 -- an `iloc`: the table is the same, and so are the rows of the targets
 pub rowed_beside : (n used : ℕ) → used ≤ 2048 → (t u v x : List ℕ) → u ≡ t → ((i : ℕ) → i < 2048 → get_or x i 0 ≡ get_or v i 0) →
-    (m : ℕ) → read.Targets used ≡ read.Targets m → RowedTo n used t v → RowedTo n m u x
+    (m : ℕ) → Answers used m → RowedTo n used t v → RowedTo n m u x
 rowed_beside n used few t u v x e q m i r = rowed_as n used m u x i (λ j h. let z = q j (omega arith) in rw (e, z) (r j h))
 
 -- what the loop over the references keeps of the rows, which were v
@@ -143,5 +145,5 @@ pub record Rowing (n used : ℕ) (v u x : List ℕ) : Type 0 where
 pub rowing_none : (n : ℕ) (v u : List ℕ) → Rowing n 0 v u v
 rowing_none n v u = record { long = refl; rowed = λ j h. absurd (omega arith) }
 
-pub rowing_end : (n used : ℕ) (v u x : List ℕ) → Rowing n used v u x → (m : ℕ) → read.Targets used ≡ read.Targets m → RowedTo n m u x
+pub rowing_end : (n used : ℕ) (v u x : List ℕ) → Rowing n used v u x → (m : ℕ) → Answers used m → RowedTo n m u x
 rowing_end n used v u x so m i = rowed_as n used m u x i so.rowed

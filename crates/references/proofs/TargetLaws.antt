@@ -32,24 +32,24 @@ use Rattle.forms.proofs.StepLaws.{
 use Rattle.contents.specs.Iref.{target_form}
 use Rattle.records.specs.inner.Rows.{id_at, ids_in, FoundIs}
 use Rattle.records.specs.inner.Stage.{Kept}
-use Rattle.records.specs.declared.FoundRow.TheVariants.{At, Nothing}
 use Rattle.records.proofs.SetsLaws.{sets_below, sets_append}
 use Rattle.table.specs.declared.ItemRow.{ItemRow}
 use Rattle.records.proofs.IdLaws.{row_listed, row_missing}
 use Rattle.records.proofs.KeptLaws.{kept_sets}
-use Rattle.references.specs.inner.Steps.{targets_from, told_targets, TargetsLeft}
-use Rattle.references.specs.declared.TargetsPut.{TargetsPut}
-use Rattle.references.specs.declared.TargetsPut.TheVariants as targets
+use Rattle.references.specs.inner.Steps.{targets_from, no_value, TargetsLeft}
+use Rattle.std.specs.Prelude.{Result, Ok, Err, Some, None}
+use Rattle.boxes.specs.declared.Refusal.{Refusal}
+use Rattle.boxes.specs.Told.{told}
 
 never-ok : {P : Type 0} (m q : ℕ) (ts : List ℕ) → refuse m q ≡ ok ts → P
-never-ok m q ts e = let z : ◌≡◌ {A = ℕ} 0 1 = cc in absurd (omega arith)
+never-ok m q ts e = cc
 
 -- FoundIs, in a table whose IDs are those of t
 module _ (t u : List ℕ) (n : ℕ) (same : (k : ℕ) → k < n → id_at u k ≡ id_at t k) (id : ℕ) where
-  pub found-member : (row : ItemRow) → FoundIs u n id (At row) → member id (ids_in t n) ≡ true
+  pub found-member : (row : ItemRow) → FoundIs u n id (Some row) → member id (ids_in t n) ≡ true
   found-member row g = row_listed t n id row.0 g.0 (sym (same row.0 g.0) ∙ g.1)
 
-  pub found_no_member : FoundIs u n id Nothing → member id (ids_in t n) ≡ false
+  pub found_no_member : FoundIs u n id None → member id (ids_in t n) ≡ false
   found_no_member g = row_missing t n id (λ k m q. g k m (same k m ∙ q))
 
 -- target-form, as one of many
@@ -201,8 +201,8 @@ module _ (s : List ℕ) (from w k p n : ℕ) (keep : Bool) (used : ℕ) (t : Lis
       }
 
   -- what the code returns, u being the table
-  abbrev pub Tells : List ℕ → TargetsPut → Type 0
-  Tells u r = (r ≡ told_targets (targets_from (ids_in t n) w k p s from)) × TargetsLeft (targets_from (ids_in t n) w k p s from) k keep used t u
+  abbrev pub Tells : List ℕ → Result (Unit {0}) Refusal → Type 0
+  Tells u r = (r ≡ told no_value (targets_from (ids_in t n) w k p s from)) × TargetsLeft (targets_from (ids_in t n) w k p s from) k keep used t u
 
   module _ (few : n ≤ 256) (room : used ≤ 2048) (fits : keep ≡ true → used + k ≤ 2048) (u : List ℕ) (at j : ℕ) (so : So u at j) where
     pub so_length : length u ≡ length t
@@ -216,17 +216,15 @@ module _ (s : List ℕ) (from w k p n : ℕ) (keep : Bool) (used : ℕ) (t : Lis
     so_ids : (i : ℕ) → i < n → id_at u i ≡ id_at t i
     so_ids i h = ap (λ (l : List ℕ). id_at l i) so.stored ∙ sets_below (pick keep so.ts []) t (7184 + used) (16 + 16 * i) (omega arith)
 
-    refuses : (m : ℕ) → left (ids_in t n) w p s (k - j) at so.ts ≡ refuse m p → Tells u (targets.Refused (record { number = m; place = p }))
-    unfolding told_targets
+    refuses : (m : ℕ) → left (ids_in t n) w p s (k - j) at so.ts ≡ refuse m p → Tells u (Err (record { number = m; place = p }))
+    unfolding told
     refuses m e =
         let a = so.same ∙ e in (
-          sym (ap told_targets a),
+          sym (ap (told no_value) a),
           record {
             kept = so_kept;
             other = λ q. so.stored ∙ kept-not keep t (7184 + used) so.ts q;
-            told =
-                λ ts o. let z : ◌≡◌ {A = ℕ} 0 1 = (let y : refuse m p ≡ ok ts = sym a ∙ o in cc) in
-                absurd (omega arith);
+            told = λ ts o. cc;
           },
         )
 
@@ -235,17 +233,17 @@ module _ (s : List ℕ) (from w k p n : ℕ) (keep : Bool) (used : ℕ) (t : Lis
       next : k - j ≡ suc (k - (j + 1))
       next = omega arith
 
-      pub cut : length s - at < w → Tells u (targets.Refused (record { number = 8; place = p }))
+      pub cut : length s - at < w → Tells u (Err (record { number = 8; place = p }))
       cut l = let h = so.here in refuses 8 (rw next (target-short (ids_in t n) w p s (k - (j + 1)) at so.ts h (omega arith)))
 
       module _ (l : w ≤ length s - at) (id : ℕ) (e : id ≡ be_at s at w) where
         inside : at + w ≤ length s
         inside = let h = so.here in omega arith
 
-        pub unlisted : FoundIs u n id Nothing → Tells u (targets.Refused (record { number = 11; place = p }))
+        pub unlisted : FoundIs u n id None → Tells u (Err (record { number = 11; place = p }))
         unlisted g = refuses 11 (rw next (target-unlisted (ids_in t n) w p s (k - (j + 1)) at so.ts inside (rw (← e) (found_no_member t u n so_ids id g))))
 
-        pub listed : (row : ItemRow) → FoundIs u n id (At row) → (v : List ℕ) → v ≡ sets u (7184 + used + j) (pick keep (id ∷ []) []) → So v (at + w) (j + 1)
+        pub listed : (row : ItemRow) → FoundIs u n id (Some row) → (v : List ℕ) → v ≡ sets u (7184 + used + j) (pick keep (id ∷ []) []) → So v (at + w) (j + 1)
         listed row g v q =
             let c = so.count in
             record {
@@ -262,16 +260,16 @@ module _ (s : List ℕ) (from w k p n : ℕ) (keep : Bool) (used : ℕ) (t : Lis
       none : k - j ≡ 0
       none = omega arith
 
-      pub left_over : at < length s → Tells u (targets.Refused (record { number = 8; place = p }))
+      pub left_over : at < length s → Tells u (Err (record { number = 8; place = p }))
       left_over h = refuses 8 (rw none (target-left-over (ids_in t n) w p s at so.ts h))
 
-      pub done : length s ≤ at → Tells u targets.Done
-      unfolding told_targets
+      pub done : length s ≤ at → Tells u (Ok tt)
+      unfolding told
       done h =
           let a : targets_from (ids_in t n) w k p s from ≡ ok so.ts = so.same ∙ rw none (target-end (ids_in t n) w p s at so.ts h) in
           let c = so.count in
           let m = so.upto in (
-            sym (ap told_targets a),
+            sym (ap (told no_value) a),
             record {
               kept = so_kept;
               other = λ q. so.stored ∙ kept-not keep t (7184 + used) so.ts q;

@@ -1,12 +1,13 @@
 // `iref`: what items are derived from, into targets and records, and what their bytes are made of, into rows.
 #![tactic(auto)]
 
-ghost use Rattle.std.specs.Prelude.{◌≡◌, true, false, List, [], ◌∷◌, ◌++◌, ◌⊎◌, ℕ, ◌+◌, ◌*◌, ◌≤◌, ◌<◌, length, get_or, drop, replicate};
+ghost use Rattle.std.specs.Prelude.{◌≡◌, true, false, Ok, List, [], ◌∷◌, ◌++◌, ◌⊎◌, ℕ, ◌+◌, ◌*◌, ◌≤◌, ◌<◌, length, get_or, drop, replicate};
 ghost use Rattle.std.proofs.lemmas.List.Edits.{sets};
 ghost use Rattle.fields.specs.Choice.{pick};
 ghost use Rattle.fields.specs.Field.{be_at};
 ghost use Rattle.fields.specs.Lists.{member};
 ghost use Rattle.boxes.specs.Answer.{ok};
+ghost use Rattle.boxes.specs.Told.{told};
 ghost use Rattle.boxes.specs.Types.{dimg, iloc};
 ghost use Rattle.boxes.specs.Children.{contain};
 ghost use Rattle.contents.specs.Iinf.{ids_of};
@@ -27,7 +28,7 @@ ghost use Rattle.records.specs.inner.Named.{NamedRows};
 ghost use Rattle.records.specs.inner.Stage.{Kept, Ready};
 ghost use Rattle.references.specs.inner.Steps.{
   targets_from,
-  told_targets,
+  no_value,
   TargetsLeft,
   purpose_of,
   Marked,
@@ -39,13 +40,10 @@ ghost use Rattle.references.specs.inner.Steps.{
   Put,
   ChildrenLeft,
 };
-ghost use Rattle.references.specs.inner.Told.{told_references, ReferencesLeft};
-ghost use Rattle.references.specs.declared.TargetsPut.TheVariants.{Done};
-ghost use Rattle.references.specs.declared.ReferencesRead.TheVariants.{Targets};
+ghost use Rattle.references.specs.inner.Told.{target_count, ReferencesLeft};
 
+use boxes::types::{DIMG, ILOC};
 use boxes::{Child, Refusal};
-use contents::FullRead;
-use records::FoundRow;
 use table::{ItemId, ItemRow, Table};
 
 // What a reference is read for: what an item is derived from, what its bytes are made of, or only that it is well formed.
@@ -56,13 +54,8 @@ pub enum Purpose {
     Other,
 }
 
-#[derive(Drop)]
-pub enum TargetsPut {
-    Done,
-    Refused(Refusal),
-}
-
 // Target j of a reference and the row that it names, which are kept behind the `used` targets before it, or not at all.
+#[tactic(auto, unfolding(fields::specs::Choice::pick))]
 fn put_target(
     table: &mut [u32],
     rows: &mut [u32],
@@ -95,40 +88,35 @@ fn put_targets(
     keys: &[u64; 512],
     keep: bool,
     used: usize,
-) -> TargetsPut
+) -> Result<(), Refusal>
     requires { (11280 ≤ length table.old) × (2048 ≤ length rows.old) × (n ≤ 256) × (from ≤ length s.now) ×
         ((w ≡ 2) ⊎ (w ≡ 4)) × (used ≤ 2048) × (keep ≡ true → used + k ≤ 2048) }
-    ensures value { result ≡ told_targets (targets_from (ids_in table.old n) w k place s.now from) }
+    ensures value { result ≡ told no_value (targets_from (ids_in table.old n) w k place s.now from) }
     ensures targets_left { TargetsLeft (targets_from (ids_in table.old n) w k place s.now from) k keep
         used table.old table.new }
     ensures rows_unchanged { (keep ≡ false → rows.new ≡ rows.old) ×
-        (keep ≡ true → result ≡ Done → RowedTo n used table.old rows.old →
+        (keep ≡ true → result ≡ Ok tt → RowedTo n used table.old rows.old →
         RowedTo n (used + k) table.new rows.new) ×
         ((i : ℕ) → 2048 ≤ i → get_or rows.new i 0 ≡ get_or rows.old i 0) }
 {
     let mut at = from;
     let mut hope: usize = 0;
-    let mut j: usize = 0;
-    while j < k {
+    for j in 0..k {
         if s.len() - at < w {
-            return TargetsPut::Refused(Refusal { number: 8, place });
+            return Err(Refusal { number: 8, place });
         }
         let id = fields::be_id(s, at, w);
-        let f = records::row_of(&*table, n, ItemId(id), ItemRow(hope), keys);
-        match f {
-            FoundRow::Nothing => return TargetsPut::Refused(Refusal { number: 11, place }),
-            FoundRow::At(row) => {
-                put_target(table, rows, keep, used, j, id, row);
-                hope = row.0 + 1;
-                at += w;
-                j += 1;
-            }
-        }
+        let Some(row) = records::row_of(&*table, n, ItemId(id), ItemRow(hope), keys) else {
+            return Err(Refusal { number: 11, place });
+        };
+        put_target(table, rows, keep, used, j, id, row);
+        hope = row.0 + 1;
+        at += w;
     }
     if at < s.len() {
-        return TargetsPut::Refused(Refusal { number: 8, place });
+        return Err(Refusal { number: 8, place });
     }
-    TargetsPut::Done
+    Ok(())
 }
 
 fn put_span(table: &mut [u32], row: ItemRow, used: usize, k: usize)
@@ -140,13 +128,8 @@ fn put_span(table: &mut [u32], row: ItemRow, used: usize, k: usize)
     table[a + 6] = k as u32;
 }
 
-#[derive(Drop)]
-pub enum ReferencesRead {
-    Targets(usize),
-    Refused(Refusal),
-}
-
 // Whether a row has a reference of this kind already. Only a `dimg` has targets; that there was an `iloc` is marked.
+#[tactic(auto, unfolding(crate::specs::inner::Steps::second_by))]
 fn is_second(table: &[u32], rows: &[u32], purpose: Purpose, row: ItemRow) -> bool
     requires { (11280 ≤ length table.now) × (2816 ≤ length rows.now) × (row.0 < 256) }
     ensures { result ≡ second_by purpose table.now rows.now row.0 }
@@ -169,24 +152,23 @@ fn put_reference(
     n: usize,
     keys: &[u64; 512],
     used: usize,
-) -> ReferencesRead
+) -> Result<usize, Refusal>
     requires { (11280 ≤ length table.old) × (2816 ≤ length rows.old) × (n ≤ 256) × ((w ≡ 2) ⊎ (w ≡ 4)) × (used ≤ 2048) }
     ensures kept { Kept table.old table.new }
     ensures by_index { (kind : ℕ) (before : IrefContent) → purpose ≡ purpose_of kind → used ≡ targets_in before.derivations →
         Marked table.old n before.derivations → MarkedLinks table.old n before.links rows.old →
         Put w kind place s.now n used before table.old table.new rows.old rows.new result }
-    ensures by_index_2 { (m : ℕ) → result ≡ Targets m → RowedTo n used table.old rows.old →
+    ensures by_index_2 { (m : ℕ) → result ≡ Ok m → RowedTo n used table.old rows.old →
         RowedTo n m table.new rows.new }
 {
     if s.len() < w {
-        return ReferencesRead::Refused(Refusal { number: 8, place });
+        return Err(Refusal { number: 8, place });
     }
-    let f = records::row_away(&*table, n, ItemId(fields::be_id(s, 0, w)), keys);
-    match f {
-        FoundRow::Nothing => ReferencesRead::Refused(Refusal { number: 11, place }),
-        FoundRow::At(row) => {
+    match records::row_away(&*table, n, ItemId(fields::be_id(s, 0, w)), keys) {
+        None => Err(Refusal { number: 11, place }),
+        Some(row) => {
             if is_second(&*table, &*rows, purpose, row) {
-                return ReferencesRead::Refused(Refusal { number: 10, place });
+                return Err(Refusal { number: 10, place });
             }
             put_counted(s, purpose, w, place, table, rows, n, keys, row, used)
         }
@@ -205,29 +187,26 @@ fn put_counted(
     keys: &[u64; 512],
     row: ItemRow,
     used: usize,
-) -> ReferencesRead
+) -> Result<usize, Refusal>
     requires in_bounds { (11280 ≤ length table.old) × (2816 ≤ length rows.old) × (n ≤ 256) × ((w ≡ 2) ⊎ (w ≡ 4)) × (used ≤ 2048) }
     requires w_in_bounds { (w ≤ length s.now) × (row.0 < n) × (id_at table.old row.0 ≡ be_at s.now 0 w) }
     ensures kept { Kept table.old table.new }
     ensures by_index { (kind : ℕ) (before : IrefContent) → purpose ≡ purpose_of kind → used ≡ targets_in before.derivations →
         member (be_at s.now 0 w) (referring_by kind before) ≡ false →
         Put w kind place s.now n used before table.old table.new rows.old rows.new result }
-    ensures by_index_2 { (m : ℕ) → result ≡ Targets m → RowedTo n used table.old rows.old →
+    ensures by_index_2 { (m : ℕ) → result ≡ Ok m → RowedTo n used table.old rows.old →
         RowedTo n m table.new rows.new }
 {
     if s.len() < w + 2 {
-        return ReferencesRead::Refused(Refusal { number: 8, place });
+        return Err(Refusal { number: 8, place });
     }
     let k = fields::be16(s, w) as usize;
     match purpose {
         Purpose::Derives => put_derivation(s, w, k, place, table, rows, n, keys, row, used),
         Purpose::Places => put_places(s, w, k, place, table, rows, n, keys, row, used),
         Purpose::Other => {
-            let t = put_targets(s, w + 2, w, k, place, table, rows, n, keys, false, used);
-            match t {
-                TargetsPut::Refused(r) => ReferencesRead::Refused(r),
-                TargetsPut::Done => ReferencesRead::Targets(used),
-            }
+            put_targets(s, w + 2, w, k, place, table, rows, n, keys, false, used)?;
+            Ok(used)
         }
     }
 }
@@ -254,16 +233,10 @@ fn picked_row(
     if k <= j {
         return 256;
     }
-    let f = records::row_of(
-        table,
-        n,
-        ItemId(fields::be_id(s, w + 2 + w * j, w)),
-        hope,
-        keys,
-    );
-    match f {
-        FoundRow::Nothing => 256,
-        FoundRow::At(row) => row.0 as u32,
+    let id = fields::be_id(s, w + 2 + w * j, w);
+    match records::row_of(table, n, ItemId(id), hope, keys) {
+        None => 256,
+        Some(row) => row.0 as u32,
     }
 }
 
@@ -287,13 +260,11 @@ fn put_named(
         rows.old rows.new }
 {
     let mut hope: u32 = 0;
-    let mut j: usize = 0;
-    while j < count {
+    for j in 0..count {
         let at = 2304 + first + j;
         let x = picked_row(s, w, k, rows[at], table, n, ItemRow(hope as usize), keys);
         rows[at] = x;
         hope = x;
-        j += 1;
     }
 }
 
@@ -338,17 +309,17 @@ fn put_places(
     keys: &[u64; 512],
     row: ItemRow,
     used: usize,
-) -> ReferencesRead
+) -> Result<usize, Refusal>
     requires in_bounds { (11280 ≤ length table.old) × (2816 ≤ length rows.old) × (n ≤ 256) × ((w ≡ 2) ⊎ (w ≡ 4)) × (used ≤ 2048) }
     requires w_in_bounds { (w + 2 ≤ length s.now) × (row.0 < n) × (id_at table.old row.0 ≡ be_at s.now 0 w) × (k ≡ be_at s.now w 2) × (k < 65536) }
     ensures kept { Kept table.old table.new }
     ensures put { (before : IrefContent) → used ≡ targets_in before.derivations →
         member (be_at s.now 0 w) (referring_in before.links) ≡ false →
         Put w iloc place s.now n used before table.old table.new rows.old rows.new result }
-    ensures by_index { (m : ℕ) → result ≡ Targets m → RowedTo n used table.old rows.old →
+    ensures by_index { (m : ℕ) → result ≡ Ok m → RowedTo n used table.old rows.old →
         RowedTo n m table.new rows.new }
 {
-    let t = put_targets(
+    put_targets(
         s,
         w + 2,
         w,
@@ -360,15 +331,10 @@ fn put_places(
         keys,
         false,
         used,
-    );
-    match t {
-        TargetsPut::Refused(r) => ReferencesRead::Refused(r),
-        TargetsPut::Done => {
-            rows[2048 + row.0] = 1;
-            put_names(s, w, k, &*table, rows, n, keys, row);
-            ReferencesRead::Targets(used)
-        }
-    }
+    )?;
+    rows[2048 + row.0] = 1;
+    put_names(s, w, k, &*table, rows, n, keys, row);
+    Ok(used)
 }
 
 // A `dimg` with k targets.
@@ -383,48 +349,35 @@ fn put_derivation(
     keys: &[u64; 512],
     row: ItemRow,
     used: usize,
-) -> ReferencesRead
+) -> Result<usize, Refusal>
     requires in_bounds { (11280 ≤ length table.old) × (2816 ≤ length rows.old) × (n ≤ 256) × ((w ≡ 2) ⊎ (w ≡ 4)) × (used ≤ 2048) }
     requires w_in_bounds { (w + 2 ≤ length s.now) × (row.0 < n) × (id_at table.old row.0 ≡ be_at s.now 0 w) × (k ≡ be_at s.now w 2) × (k < 65536) }
     ensures kept { Kept table.old table.new }
     ensures put { (before : IrefContent) → used ≡ targets_in before.derivations →
         member (be_at s.now 0 w) (referring_in before.derivations) ≡ false →
         Put w dimg place s.now n used before table.old table.new rows.old rows.new result }
-    ensures by_index { (m : ℕ) → result ≡ Targets m → RowedTo n used table.old rows.old →
+    ensures by_index { (m : ℕ) → result ≡ Ok m → RowedTo n used table.old rows.old →
         RowedTo n m table.new rows.new }
 {
     if k == 0 {
-        return ReferencesRead::Refused(Refusal { number: 10, place });
+        return Err(Refusal { number: 10, place });
     }
     if 2048 < used + k {
-        return ReferencesRead::Refused(Refusal { number: 9, place });
+        return Err(Refusal { number: 9, place });
     }
-    let t = put_targets(s, w + 2, w, k, place, table, rows, n, keys, true, used);
-    match t {
-        TargetsPut::Refused(r) => ReferencesRead::Refused(r),
-        TargetsPut::Done => {
-            put_span(table, row, used, k);
-            ReferencesRead::Targets(used + k)
-        }
-    }
+    put_targets(s, w + 2, w, k, place, table, rows, n, keys, true, used)?;
+    put_span(table, row, used, k);
+    Ok(used + k)
 }
-
-// `dimg` as the number that its letters spell.
-const DIMG: u32 = 0x64696d67;
-
-// `iloc` as the number that its letters spell.
-const ILOC: u32 = 0x696c6f63;
 
 fn purpose_of(kind: u32) -> Purpose
     ensures { result ≡ purpose_of kind }
 {
-    if kind == DIMG {
-        return Purpose::Derives;
+    match kind {
+        DIMG => Purpose::Derives,
+        ILOC => Purpose::Places,
+        _ => Purpose::Other,
     }
-    if kind == ILOC {
-        return Purpose::Places;
-    }
-    Purpose::Other
 }
 
 // The references of an `iref` at a place from behind its version on, its content s beginning at `base`, into a table with n items.
@@ -437,39 +390,43 @@ fn put_references(
     rows: &mut [u32],
     n: usize,
     keys: &[u64; 512],
-) -> ReferencesRead
+) -> Result<usize, Refusal>
     requires in_bounds { (11280 ≤ length table.old) × (2816 ≤ length rows.old) × (n ≤ 256) ×
         (base + length s.now < 18446744073709551616) × (4 ≤ length s.now) × ((w ≡ 2) ⊎ (w ≡ 4)) }
     requires distinct { Distinct (ids_in table.old n) × ((k : ℕ) → k < n → get_or table.old (16 + 16 * k + 6) 0 ≡ 0) ×
         ((k : ℕ) → k < n → get_or rows.old (2048 + k) 0 ≡ 0) }
-    ensures value { result ≡ told_references (contain (reference (ids_in table.old n) w) place (base + 4) no_references (drop 4 s.now)) }
+    ensures value { result ≡ told target_count (contain (reference (ids_in table.old n) w) place (base + 4) no_references (drop 4 s.now)) }
     ensures children_left { ChildrenLeft (contain (reference (ids_in table.old n) w) place (base + 4) no_references
         (drop 4 s.now)) n table.old table.new rows.old rows.new }
-    ensures by_index { (m : ℕ) → result ≡ Targets m → RowedTo n m table.new rows.new }
+    ensures by_index { (m : ℕ) → result ≡ Ok m → RowedTo n m table.new rows.new }
 {
     let mut at: usize = 4;
     let mut used: usize = 0;
+    // A loop: each turn goes on to the reference behind.
     loop {
         let c = boxes::child_at(s, at);
         let here = base + (at as u64);
         match c {
             Child::Whole { kind, body, end } => {
-                let purpose = purpose_of(kind);
-                let r = put_reference(&s[body..end], purpose, w, here, table, rows, n, keys, used);
-                match r {
-                    ReferencesRead::Refused(f) => return ReferencesRead::Refused(f),
-                    ReferencesRead::Targets(k) => {
-                        used = k;
-                        at = end;
-                    }
-                }
+                used = put_reference(
+                    &s[body..end],
+                    purpose_of(kind),
+                    w,
+                    here,
+                    table,
+                    rows,
+                    n,
+                    keys,
+                    used,
+                )?;
+                at = end;
             }
-            Child::Bad => return ReferencesRead::Refused(Refusal {
+            Child::Bad => return Err(Refusal {
                 number: 3,
                 place: here,
             }),
-            Child::Spare => return ReferencesRead::Refused(Refusal { number: 3, place }),
-            Child::End => return ReferencesRead::Targets(used),
+            Child::Spare => return Err(Refusal { number: 3, place }),
+            Child::End => return Ok(used),
         }
     }
 }
@@ -479,11 +436,7 @@ fn clear_marks(rows: &mut [u32])
     requires { 2816 ≤ length rows.old }
     ensures { rows.new ≡ sets rows.old 2048 (replicate 256 0) }
 {
-    let mut k: usize = 0;
-    while k < 256 {
-        rows[2048 + k] = 0;
-        k += 1;
-    }
+    rows[2048..2304].fill(0);
 }
 
 // The references of the `iref` at a place, its content s beginning at `base`, into a table with n items. `rows` has from 2,304 on what
@@ -496,27 +449,22 @@ pub fn read_references(
     rows: &mut [u32],
     n: usize,
     keys: &[u64; 512],
-) -> ReferencesRead
+) -> Result<usize, Refusal>
     requires in_bounds { (11280 ≤ length table.old) × (2816 ≤ length rows.old) × (n ≤ 256) × (base + length s.now < 18446744073709551616) }
     requires distinct { Distinct (ids_in table.old n) × ((k : ℕ) → k < n → get_or table.old (16 + 16 * k + 6) 0 ≡ 0) }
-    ensures value { result ≡ told_references (references (ids_in table.old n) place base s.now) }
+    ensures value { result ≡ told target_count (references (ids_in table.old n) place base s.now) }
     ensures references_left { ReferencesLeft s.now place base n table.old table.new }
-    ensures by_index { (m : ℕ) → result ≡ Targets m → RowedTo n m table.new rows.new }
+    ensures by_index { (m : ℕ) → result ≡ Ok m → RowedTo n m table.new rows.new }
     ensures rows_len_unchanged { length rows.new ≡ length rows.old }
     ensures named_rows { (pl : Places) (f : File) (x : List ℕ) (c : IrefContent) → Ready f n → f.derivations ≡ [] → f.links ≡ [] →
         references (ids_of f.items) place base s.now ≡ ok c → table.old ≡ raw_of [] pl f ++ x →
         NamedRows f.items f.locations [] rows.old →
         NamedRows f.items f.locations c.links rows.new }
 {
-    let h = contents::read_full(s, 0, 1, place);
-    match h {
-        FullRead::Refused(r) => ReferencesRead::Refused(r),
-        FullRead::Is { version, flags: _ } => {
-            clear_marks(&mut *rows);
-            if version == 0 {
-                return put_references(s, 2, place, base, table, rows, n, keys);
-            }
-            put_references(s, 4, place, base, table, rows, n, keys)
-        }
+    let h = contents::read_full(s, 0, 1, place)?;
+    clear_marks(&mut *rows);
+    if h.version == 0 {
+        return put_references(s, 2, place, base, table, rows, n, keys);
     }
+    put_references(s, 4, place, base, table, rows, n, keys)
 }

@@ -3,39 +3,35 @@
 use Prim.Native.Nat.{ℕ, zero, suc, ◌+◌, ◌≤◌, ◌<◌}
 use native.Mathlib.Omega.{arith}
 use mathlib.Core.Path.{◌≡◌, refl, ap, ◌∙◌}
-use mathlib.Core.List.{List, [], ◌∷◌, map}
-use lib.ListN.{length, set, get_or}
+use mathlib.Core.List.{List, [], ◌∷◌, ◌++◌, map}
+use lib.ListN.{length, set, get_or, take, drop}
 use borrow.Author.Tests.{le-leb, lt-leb}
-use Rattle.boxes.specs.Answer.{check, ◌>>=◌, ◌>>◌}
+use Rattle.std.specs.Prelude.{Ok, Err}
+use Rattle.boxes.specs.Answer.{ok, refuse, check, ◌>>=◌, ◌>>◌}
 use Rattle.boxes.specs.declared.Refusal.{Refusal}
 use Rattle.contents.specs.File.{File}
 use Rattle.pictures.specs.declared.Point.{Point}
 use Rattle.rules.specs.Derivations.{scene_of}
 use Rattle.rules.specs.Opening.{pictured}
 use Rattle.questions.specs.Questions.{trace_in, trace}
-use Rattle.table.specs.declared.ItemRow.{ItemRow}
-use Rattle.asked.specs.Told.{told_pictured}
-use Rattle.asked.specs.declared.Pictured.TheVariants as pictures
-use Rattle.asked.proofs.PicturedLaws.{pictured-refused, pictured-row}
 use Rattle.traced.specs.Told.{told_traced}
 use Rattle.seam.specs.Points.{points_in, single_trace, told_points_filled}
 use Rattle.seam.specs.inner.Hand.{AtHand, answered_to}
-use Rattle.seam.specs.declared.PointsFilled.TheVariants as filled
 
 -- points_in: 21 and 22, 28, or all
 module _ (f : File) (id n : ℕ) where
-  pub points_off : (y : Refusal) → told_pictured (pictured f id) ≡ pictures.Refused y → filled.Refused y ≡ told_points_filled (points_in f id n)
+  pub points_off : (y : Refusal) → pictured f id ≡ refuse y.number y.place → Err y ≡ told_points_filled (points_in f id n)
   unfolding points_in told_points_filled ◌>>=◌
-  points_off y e = rw (pictured-refused _ y e)
+  points_off y e = rw e
 
-  module _ (r : ItemRow) (e : told_pictured (pictured f id) ≡ pictures.At r) where
-    pub points-over : 512 < n → (y : Refusal) → y.number ≡ 28 → y.place ≡ id → filled.Refused y ≡ told_points_filled (points_in f id n)
+  module _ (r : ℕ) (e : pictured f id ≡ ok r) where
+    pub points-over : 512 < n → (y : Refusal) → y.number ≡ 28 → y.place ≡ id → Err y ≡ told_points_filled (points_in f id n)
     unfolding points_in told_points_filled check ◌>>=◌ ◌>>◌
-    points-over h y i p = rw (pictured-row _ r e, lt-leb n 512 h, ← i, ← p)
+    points-over h y i p = rw (e, lt-leb n 512 h, ← i, ← p)
 
-    pub points-all : n ≤ 512 → filled.All n ≡ told_points_filled (points_in f id n)
+    pub points-all : n ≤ 512 → Ok n ≡ told_points_filled (points_in f id n)
     unfolding points_in told_points_filled check ◌>>=◌ ◌>>◌
-    points-all h = rw (pictured-row _ r e, le-leb n 512 h)
+    points-all h = rw (e, le-leb n 512 h)
 
 -- at hand: a trace of the file is a single trace of the head
 pub trace-at_hand : (head : List ℕ) (total : ℕ) (t rows : List ℕ) (h : AtHand head total t rows) (id : ℕ) (p : Point) →
@@ -69,6 +65,13 @@ module _ {A : Type 0} (by : A → A) where
       let z : suc n ≡ n + 1 = omega arith in
       ap (set ts n) q ∙ ap (λ (l : List A). set l n (by (get_or l n d))) e ∙ one_more n rs d h ∙
       ap (λ (k : ℕ). answered_to by k rs) z
+
+  -- the first n by themselves, then the others
+  pub answered_front : (n : ℕ) (rs : List A) → n ≤ length rs → answered_to by n (take n rs) ++ drop n rs ≡ answered_to by n rs
+  unfolding answered_to
+  answered_front zero rs h = refl
+  answered_front (suc n) [] h = absurd (omega (arith, h))
+  answered_front (suc n) (r ∷ rs) h = ap (λ (l : List A). by r ∷ l) (answered_front n rs (omega (arith, h)))
 
   pub all-answered : (rs : List A) → answered_to by (length rs) rs ≡ map by rs
   unfolding answered_to

@@ -4,9 +4,10 @@
 --   single_trace n total head id p    what a single trace of the point p answers
 --   answered trace r            a record with its answer
 --   records_after                what a call leaves in the records
---   told_points_filled                  the code's value for an answer
-use Rattle.std.specs.Prelude.{ℕ, List, map, leb}
+--   told_points_filled          the code's value for an answer
+use Rattle.std.specs.Prelude.{ℕ, List, map, leb, Result, Ok, Err}
 use Rattle.boxes.specs.Answer.{Answer, ok, refuse, check, ◌>>=◌, ◌>>◌}
+use Rattle.boxes.specs.declared.Refusal.{Refusal}
 use Rattle.contents.specs.File.{File}
 use Rattle.pictures.specs.declared.Point.{Point}
 use Rattle.pictures.specs.Turn.{point}
@@ -15,8 +16,6 @@ use Rattle.questions.specs.Questions as Q
 use Rattle.traced.specs.declared.Traced.{Traced}
 use Rattle.traced.specs.Told.{told_traced}
 use Rattle.seam.specs.declared.PointRecord.{PointRecord}
-use Rattle.seam.specs.declared.PointsFilled.{PointsFilled}
-use Rattle.seam.specs.declared.PointsFilled.TheVariants as filled
 
 -- "Refusals 1 to 22 and a list over 512 (28, after 22)"
 unfoldable pub points_in : File → ℕ → ℕ → Answer ℕ
@@ -29,18 +28,18 @@ unfoldable pub points : ℕ → ℕ → List ℕ → ℕ → ℕ → Answer ℕ
 points n total head id k = opened n total head >>= (λ f. points_in f id k)
 
 -- "The result equals single traces of the same points. A point outside the picture gets 23 in its own record"
-abbrev pub single_trace : ℕ → ℕ → List ℕ → ℕ → Point → Traced
+abbrev pub single_trace : ℕ → ℕ → List ℕ → ℕ → Point → Result Traced Refusal
 single_trace n total head id p = told_traced (Q.trace n total head id p)
 
 -- "point records, each holding x and y and room for its trace answer": x and y stay
-abbrev pub answered : (Point → Traced) → PointRecord → PointRecord
+abbrev pub answered : (Point → Result Traced Refusal) → PointRecord → PointRecord
 answered trace r = record { x = r.x; y = r.y; answer = trace (point r.x r.y) }
 
 -- "fill them in order"; "Refusals .. change no record"
-unfoldable pub records_after : Answer ℕ → (Point → Traced) → List PointRecord → List PointRecord
+unfoldable pub records_after : Answer ℕ → (Point → Result Traced Refusal) → List PointRecord → List PointRecord
 records_after (ok n) trace rs = map (answered trace) rs
 records_after (refuse n p) trace rs = rs
 
-unfoldable pub told_points_filled : Answer ℕ → PointsFilled
-told_points_filled (ok n) = filled.All n
-told_points_filled (refuse n p) = filled.Refused (record { number = n; place = p })
+unfoldable pub told_points_filled : Answer ℕ → Result ℕ Refusal
+told_points_filled (ok n) = Ok n
+told_points_filled (refuse n p) = Err (record { number = n; place = p })

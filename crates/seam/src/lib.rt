@@ -16,7 +16,6 @@ ghost use Rattle.seam.specs.Points.{points_in, single_trace, answered, told_poin
 ghost use Rattle.seam.specs.Numbers.{found_numbers, answered_numbers, numbers_after};
 ghost use Rattle.seam.specs.inner.Hand.{AtHand, count_of, answered_to, PlaceFits};
 
-use asked::Pictured;
 use boxes::Refusal;
 use pictures::Point;
 use table::{ItemId, ItemRow};
@@ -27,39 +26,28 @@ use traced::Traced;
 pub struct PointRecord {
     pub x: u32,
     pub y: u32,
-    pub answer: Traced,
+    pub answer: Result<Traced, Refusal>,
 }
 
-// How many records were filled: all of them, or none.
-#[derive(Clone, Copy)]
-pub enum PointsFilled {
-    All(u32),
-    Refused(Refusal),
-}
-
-// Whether n points of an item are answered: 21, 22, then 28.
-pub fn points_in(table: &[u32], id: ItemId, n: usize) -> PointsFilled
+// How many of n points of an item are answered, all of them: 21, 22, then 28.
+pub fn points_in(table: &[u32], id: ItemId, n: usize) -> Result<u32, Refusal>
     ensures { (head : List ℕ) (pl : Places) (f : File) → TableOf table.now head pl f → result ≡ told_points_filled (points_in f id.0 n) }
 {
-    let p = asked::picture_row(table, id);
-    match p {
-        Pictured::Refused(f) => PointsFilled::Refused(f),
-        Pictured::At(_) => {
-            if 512 < n {
-                return PointsFilled::Refused(asked::refusal(28, id));
-            }
-            PointsFilled::All(n as u32)
-        }
+    asked::picture_row(table, id)?;
+    if 512 < n {
+        return Err(asked::refusal(28, id));
     }
+    Ok(n as u32)
 }
 
 // How many records are to be filled.
-pub fn count_of(f: PointsFilled) -> usize
+#[tactic(auto, unfolding(crate::specs::inner::Hand::count_of))]
+pub fn count_of(f: Result<u32, Refusal>) -> usize
     ensures { result ≡ count_of f }
 {
     match f {
-        PointsFilled::All(n) => n as usize,
-        PointsFilled::Refused(_) => 0,
+        Ok(n) => n as usize,
+        Err(_) => 0,
     }
 }
 
@@ -97,21 +85,19 @@ pub fn answer_all(
     ensures { points.new ≡ answered_to
         (answered (single_trace (length table.now) total head.now id.0)) n points.old }
 {
-    let mut i: usize = 0;
-    while i < n {
-        points[i] = answer(head, total, table, rows, id, points[i]);
-        i = i + 1;
+    for r in &mut points[..n] {
+        *r = answer(head, total, table, rows, id, *r);
     }
 }
 
 // The nine numbers of a record with its answer: x and y stay. The place of a refusal is the asked ID, which has 32 bits.
-fn numbers_with(r: [u32; 9], t: Traced) -> [u32; 9]
+fn numbers_with(r: [u32; 9], t: Result<Traced, Refusal>) -> [u32; 9]
     ensures { (m : Answer Q.Found) → t ≡ told_traced m → PlaceFits m → result ≡ get_or r 0 0 ∷ get_or r 1 0 ∷ found_numbers m }
 {
     match t {
-        Traced::Pixel { item, x, y, passed } => [r[0], r[1], 0, 0, 1, item.0, x, y, passed],
-        Traced::Fill { item, x, y, passed } => [r[0], r[1], 0, 0, 2, item.0, x, y, passed],
-        Traced::Refused(f) => [
+        Ok(Traced::Pixel { item, x, y, passed }) => [r[0], r[1], 0, 0, 1, item.0, x, y, passed],
+        Ok(Traced::Fill { item, x, y, passed }) => [r[0], r[1], 0, 0, 2, item.0, x, y, passed],
+        Err(f) => [
             r[0],
             r[1],
             f.number,
@@ -138,13 +124,9 @@ pub fn answer_numbers(
         pictured f id.0 ≡ ok row.0 → points.new ≡
         map (answered_numbers (λ p. trace_in (scene_of total head.now f) f id.0 p)) points.old }
 {
-    let n = points.len();
-    let mut i: usize = 0;
-    while i < n {
-        let r = points[i];
+    for r in points.iter_mut() {
         let p = Point { x: r[0], y: r[1] };
-        points[i] = numbers_with(r, traced::trace_at(head, table, rows, id, row, p));
-        i += 1;
+        *r = numbers_with(*r, traced::trace_at(head, table, rows, id, row, p));
     }
 }
 
@@ -155,22 +137,17 @@ pub fn numbers_in(
     rows: &[u32],
     id: ItemId,
     points: &mut [[u32; 9]],
-) -> PointsFilled
+) -> Result<u32, Refusal>
     ensures { (total : ℕ) (f : File) → Shown table.now rows.now head.now total f →
         (result ≡ told_points_filled (points_in f id.0 (length points.old))) × (points.new ≡
         numbers_after (points_in f id.0 (length points.old))
         (λ p. trace_in (scene_of total head.now f) f id.0 p) points.old) }
 {
     let count = points.len();
-    let p = asked::picture_row(table, id);
-    match p {
-        Pictured::Refused(f) => PointsFilled::Refused(f),
-        Pictured::At(row) => {
-            if 512 < count {
-                return PointsFilled::Refused(asked::refusal(28, id));
-            }
-            answer_numbers(head, table, rows, id, row, points);
-            PointsFilled::All(count as u32)
-        }
+    let row = asked::picture_row(table, id)?;
+    if 512 < count {
+        return Err(asked::refusal(28, id));
     }
+    answer_numbers(head, table, rows, id, row, points);
+    Ok(count as u32)
 }

@@ -1,9 +1,10 @@
 -- rule15-29-16 by its five tests, and as the code comes to them. Assumes nothing.
 use Prim.Native.Nat.{ℕ, ◌<◌}
-use native.Mathlib.Omega.{arith}
 use mathlib.Core.Path.{◌≡◌, refl, sym, ap, ◌∙◌}
 use mathlib.Core.List.{List}
 use mathlib.Core.Bool.{Bool, true, false, ◌&&◌}
+use Rattle.std.specs.Prelude.{Option, Some, None}
+use Rattle.std.proofs.lemmas.Option.{none-some}
 use lib.ListN.{length}
 use lib.Dec.{eqb}
 use borrow.Author.Tests.{eq-eqb, ne_eqb}
@@ -22,7 +23,7 @@ use Rattle.views.proofs.TableLaws.{row_small, test_read}
 use Rattle.sizing.proofs.PropertiesLaws.{good_properties}
 
 -- 15, 29 and 16 by what the five tests say
-abbrev ruled : ℕ → Bool → Bool → Bool → Bool → Bool → ℕ
+abbrev ruled : ℕ → Bool → Bool → Bool → Bool → Bool → Option ℕ
 ruled id a b c k d = fault_of (pick a (check 15 id (b && c) >> check 29 id k >> check 16 id d) (ok tt))
 
 module _ (f : File) (i : Item) where
@@ -42,19 +43,19 @@ module _ (f : File) (i : Item) where
       ∙ ap (λ (x : Bool). ruled i.id a b c x sized) ek
       ∙ ap (λ (x : Bool). ruled i.id a b c k x) ed
 
-  opaque_free : image i.type ≡ false → 0 ≡ fault_of (rule15-29-16 f i)
+  opaque_free : image i.type ≡ false → None ≡ fault_of (rule15-29-16 f i)
   unfolding fault_of pick
   opaque_free e = sym (told false _ _ _ _ e refl refl refl refl)
 
   module _ (e : image i.type ≡ true) where
-    protected-15 : eqb i.protection 0 ≡ false → 15 ≡ fault_of (rule15-29-16 f i)
+    protected-15 : eqb i.protection 0 ≡ false → Some 15 ≡ fault_of (rule15-29-16 f i)
     unfolding fault_of pick check ◌>>◌
     protected-15 p = sym (told true false _ _ _ e p refl refl refl)
 
     -- c, k and d are what the properties say
     module _ (p : eqb i.protection 0 ≡ true) where
       properties_fault : (c k d : Bool) → known ≡ c → configured f i ≡ k → sized ≡ d → (k && (c && d)) ≡ false →
-          pick c (pick k 16 29) 15 ≡ fault_of (rule15-29-16 f i)
+          Some (pick c (pick k 16 29) 15) ≡ fault_of (rule15-29-16 f i)
       unfolding fault_of pick check ◌>>◌
       properties_fault true true true ec ek ed q = untrue (sym q)
       properties_fault true true false ec ek ed q = sym (told true true true true false e p ec ek ed)
@@ -62,7 +63,7 @@ module _ (f : File) (i : Item) where
       properties_fault false k d ec ek ed q = sym (told true true false k d e p ec ek ed)
 
       properties_free : (c k d : Bool) → known ≡ c → configured f i ≡ k → sized ≡ d → (k && (c && d)) ≡ true →
-          0 ≡ fault_of (rule15-29-16 f i)
+          None ≡ fault_of (rule15-29-16 f i)
       unfolding fault_of pick check ◌>>◌
       properties_free true true true ec ek ed q = sym (told true true true true true e p ec ek ed)
       properties_free true true false ec ek ed q = untrue q
@@ -71,15 +72,15 @@ module _ (f : File) (i : Item) where
 
     -- and the other way: what the properties of an item say that is not refused
     good_free : (b c k d : Bool) → eqb i.protection 0 ≡ b → known ≡ c → configured f i ≡ k → sized ≡ d →
-        fault_of (rule15-29-16 f i) ≡ 0 → (k && (c && d)) ≡ true
+        fault_of (rule15-29-16 f i) ≡ None → (k && (c && d)) ≡ true
     unfolding fault_of pick check ◌>>◌
     good_free true true true true p ec ek ed z = refl
-    good_free true true true false p ec ek ed z = absurd (omega (arith, sym z ∙ told true true true true false e p ec ek ed))
-    good_free true true false d p ec ek ed z = absurd (omega (arith, sym z ∙ told true true true false d e p ec ek ed))
-    good_free true false k d p ec ek ed z = absurd (omega (arith, sym z ∙ told true true false k d e p ec ek ed))
-    good_free false c k d p ec ek ed z = absurd (omega (arith, sym z ∙ told true false c k d e p ec ek ed))
+    good_free true true true false p ec ek ed z = absurd (none-some _ (sym z ∙ told true true true true false e p ec ek ed))
+    good_free true true false d p ec ek ed z = absurd (none-some _ (sym z ∙ told true true true false d e p ec ek ed))
+    good_free true false k d p ec ek ed z = absurd (none-some _ (sym z ∙ told true true false k d e p ec ek ed))
+    good_free false c k d p ec ek ed z = absurd (none-some _ (sym z ∙ told true false c k d e p ec ek ed))
 
-    pub free_good : fault_of (rule15-29-16 f i) ≡ 0 → good_properties f i ≡ true
+    pub free_good : fault_of (rule15-29-16 f i) ≡ None → good_properties f i ≡ true
     free_good z = good_free _ _ _ _ refl refl refl refl z
 
 -- the item in row r of a table, by what the code reads: k its type, p its protection; x whether it is an image
@@ -91,14 +92,14 @@ module _ {t head : List ℕ} {pl : Places} {f : File} (v : TableOf t head pl f) 
   pub row-image : x ≡ true → image (item_at f r).type ≡ true
   row-image y = test_read v r h image k x ek ex ∙ y
 
-  pub row-opaque : x ≡ false → 0 ≡ fault_of (rule15-29-16 f (item_at f r))
+  pub row-opaque : x ≡ false → None ≡ fault_of (rule15-29-16 f (item_at f r))
   row-opaque y = opaque_free f (item_at f r) (row_no_image y)
 
   module _ (y : x ≡ true) (g : record_word t r 12 ≡ (item_at f r).protection) (p : ℕ) (ep : r < 256 → p ≡ record_word t r 12) where
     protection_said : p ≡ (item_at f r).protection
     protection_said = ep (row_small v r h) ∙ g
 
-    pub row-protected : (p ≡ 0 → ⊥) → 15 ≡ fault_of (rule15-29-16 f (item_at f r))
+    pub row-protected : (p ≡ 0 → ⊥) → Some 15 ≡ fault_of (rule15-29-16 f (item_at f r))
     row-protected n = protected-15 f (item_at f r) (row-image y) (ne_eqb _ 0 (λ z. n (protection_said ∙ z)))
 
     module _ (z : p ≡ 0) where
@@ -107,15 +108,8 @@ module _ {t head : List ℕ} {pl : Places} {f : File} (v : TableOf t head pl f) 
 
       pub row_wrong : (n : ℕ) →
           n ≡ pick (essential_known f (associations_of f (id_of f r))) (pick (configured f (item_at f r)) 16 29) 15 →
-          good_properties f (item_at f r) ≡ false → n ≡ fault_of (rule15-29-16 f (item_at f r))
-      row_wrong n e q = e ∙ properties_fault f (item_at f r) (row-image y) open_is _ _ _ refl refl refl q
+          good_properties f (item_at f r) ≡ false → Some n ≡ fault_of (rule15-29-16 f (item_at f r))
+      row_wrong n e q = ap Some e ∙ properties_fault f (item_at f r) (row-image y) open_is _ _ _ refl refl refl q
 
-      pub row-declared : good_properties f (item_at f r) ≡ true → 0 ≡ fault_of (rule15-29-16 f (item_at f r))
+      pub row-declared : good_properties f (item_at f r) ≡ true → None ≡ fault_of (rule15-29-16 f (item_at f r))
       row-declared q = properties_free f (item_at f r) (row-image y) open_is _ _ _ refl refl refl q
-
--- 15, 29 and 16 are not 0
-pub fault_not-none : (c k : Bool) (n : ℕ) → n ≡ pick c (pick k 16 29) 15 → n ≡ 0 → ⊥
-unfolding pick
-fault_not-none true true n e z = omega (arith, e, z)
-fault_not-none true false n e z = omega (arith, e, z)
-fault_not-none false k n e z = omega (arith, e, z)

@@ -89,16 +89,16 @@ module _ (head depths t : List ℕ) where
   filled_begun total f x e q g = q ∙ ap (λ (w : List ℕ). w ++ x) (sym (filled_none total head f))
 
   module _ (n k : ℕ) (u : List ℕ) (c : n ≡ get_or t 0 0) (h : FilledRows head depths t k u) where
-    pub filled_more : (d m : ℕ) (v : List ℕ) → k < n → d ≡ get_or depths k 0 → m ≡ 0 →
+    pub filled_more : (d : ℕ) (v : List ℕ) → k < n → d ≡ get_or depths k 0 →
         ((pl : Places) (f : File) → TableOf t head pl f → Judging t f → ToldBefore u f k)
-        → ((pl : Places) (f : File) → TableOf u head pl f → k < length f.items → ToldBefore u f k → m ≡ 0 →
+        → ((pl : Places) (f : File) → TableOf u head pl f → k < length f.items → ToldBefore u f k →
         v ≡ sets u (26 + 16 * k) (sizes_in f k d)) → FilledRows head depths t (k + 1) v
-    filled_more d m v l p none told put total f x e q g =
+    filled_more d v l p told put total f x e q g =
         let w = read_here total head f x t e q in
         let i : k < length f.items = omega (arith, w.items) in
         let z = h total f x e q g in
         put (places_in total head) f (subst (λ (w : List ℕ). TableOf w head (places_in total head) f) (sym z)
-        (filled-view total head f e x k)) i (told (places_in total head) f w (judging-here total head f x t q)) none
+        (filled-view total head f e x k)) i (told (places_in total head) f w (judging-here total head f x t q))
         ∙ ap (λ (w : List ℕ). sets w (26 + 16 * k) (sizes_in f k d)) z
         ∙ ap (sets (filled_to total head f k ++ x) (26 + 16 * k)) (sizes-words total head f k d (p ∙ g k i))
         ∙ filled_next total head f w.bounded x k i

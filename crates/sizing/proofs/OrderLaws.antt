@@ -1,11 +1,12 @@
 -- A rule for each item in table order, item by item, as the code asks for its number alone. Assumes nothing.
---   Blames id m    what m refuses is at the item with the ID id, by a number that is not 0
+--   Blames id m    what m refuses is at the item with the ID id
 --   from k         what the rule g says of the items from row k on
 use Prim.Native.Nat.{ℕ, ◌+◌, ◌<◌, ◌≤◌}
 use native.Mathlib.Numerals.{add-one}
-use native.Mathlib.Omega.{arith}
 use mathlib.Core.Path.{◌≡◌, refl, sym, ap, ◌∙◌}
 use mathlib.Core.Bool.{Bool, true, false}
+use Rattle.std.specs.Prelude.{Some, None}
+use Rattle.std.proofs.lemmas.Option.{none-some, same_Some}
 use lib.Seq.{drop-cons}
 use lib.ListN.{length, drop, drop_of_length-le}
 use Rattle.fields.proofs.FieldLaws.{both}
@@ -18,12 +19,12 @@ use Rattle.views.specs.inner.Told.{fault_of}
 
 abbrev pub Blames : ℕ → Answer (Unit {0}) → Type 0
 Blames id (ok u) = Unit {0}
-Blames id (refuse n p) = (p ≡ id) × (0 < n)
+Blames id (refuse n p) = p ≡ id
 
-pub check_blames : (n p : ℕ) (t : Bool) → 0 < n → Blames p (check n p t)
+pub check_blames : (n p : ℕ) (t : Bool) → Blames p (check n p t)
 unfolding check
-check_blames n p true h = tt
-check_blames n p false h = (refl, h)
+check_blames n p true = tt
+check_blames n p false = refl
 
 pub then_blames : (id : ℕ) (a b : Answer (Unit {0})) → Blames id a → Blames id b → Blames id (a >> b)
 unfolding ◌>>◌
@@ -34,18 +35,18 @@ then_blames id (refuse n p) b x y = x
 pub declared_blames : (f : File) (i : Item) → Blames i.id (rule15-29-16 f i)
 unfolding rule15-29-16
 declared_blames f i = both (Blames i.id) _ _ _ (λ e. then_blames i.id _ _ (then_blames i.id _ _
-    (check_blames 15 _ _ (omega arith)) (check_blames 29 _ _ (omega arith))) (check_blames 16 _ _ (omega arith))) (λ e. tt)
+    (check_blames 15 _ _) (check_blames 29 _ _)) (check_blames 16 _ _)) (λ e. tt)
 
--- a number that is 0 is no fault, another is that of the item
-fault_none : (id : ℕ) (m : Answer (Unit {0})) → Blames id m → 0 ≡ fault_of m → m ≡ ok tt
+-- no number is no fault, and a number is that of the item
+fault_none : (m : Answer (Unit {0})) → None ≡ fault_of m → m ≡ ok tt
 unfolding fault_of
-fault_none id (ok tt) b e = refl
-fault_none id (refuse n p) b e = absurd (omega (arith, b.1))
+fault_none (ok tt) e = refl
+fault_none (refuse n p) e = absurd (none-some n e)
 
-fault_some : (id n : ℕ) (m k : Answer (Unit {0})) → Blames id m → n ≡ fault_of m → (n ≡ 0 → ⊥) → (m >> k) ≡ refuse n id
+fault_some : (id n : ℕ) (m k : Answer (Unit {0})) → Blames id m → Some n ≡ fault_of m → (m >> k) ≡ refuse n id
 unfolding fault_of ◌>>◌
-fault_some id n (ok tt) k b e z = absurd (z e)
-fault_some id n (refuse m p) k b e z = rw (e, b.0)
+fault_some id n (ok tt) k b e = absurd (none-some n (sym e))
+fault_some id n (refuse m p) k b e = rw (same_Some n m e, b)
 
 -- in_order
 module _ (g : ℕ → Item → Answer (Unit {0})) (f : File) where
@@ -60,11 +61,11 @@ module _ (g : ℕ → Item → Answer (Unit {0})) (f : File) where
   unfolding in_order
   order_end k h = ap (in_order g k) (drop_of_length-le f.items h)
 
-  -- the item in row k, which g refuses by the number n
-  module _ (k n : ℕ) (h : k < length f.items) (b : Blames (item_at f k).id (g k (item_at f k))) (q : n ≡ fault_of (g k (item_at f k))) where
-    pub order_on : n ≡ 0 → from k ≡ from (k + 1)
+  -- the item in row k, which g passes, or refuses by the number n
+  module _ (k : ℕ) (h : k < length f.items) where
+    pub order_on : None ≡ fault_of (g k (item_at f k)) → from k ≡ from (k + 1)
     unfolding ◌>>◌
-    order_on z = from_next k h ∙ rw (fault_none (item_at f k).id (g k (item_at f k)) b (sym z ∙ q))
+    order_on q = from_next k h ∙ rw (fault_none (g k (item_at f k)) q)
 
-    pub order_off : (n ≡ 0 → ⊥) → from k ≡ refuse n (item_at f k).id
-    order_off z = from_next k h ∙ fault_some (item_at f k).id n (g k (item_at f k)) (from (k + 1)) b q z
+    pub order_off : (n : ℕ) → Blames (item_at f k).id (g k (item_at f k)) → Some n ≡ fault_of (g k (item_at f k)) → from k ≡ refuse n (item_at f k).id
+    order_off n b q = from_next k h ∙ fault_some (item_at f k).id n (g k (item_at f k)) (from (k + 1)) b q

@@ -6,6 +6,7 @@ use native.Mathlib.Omega.{arith}
 use mathlib.Core.Path.{◌≡◌, refl, sym, ap, subst, ◌∙◌}
 use mathlib.Core.List.{List}
 use mathlib.Core.Bool.{Bool, true, false, ◌&&◌}
+use Rattle.std.specs.Prelude.{Option, Some, None}
 use lib.ListN.{length, get_or, drop, length-map, drop_of_length-le}
 use lib.Dec.{leb}
 use Rattle.boxes.specs.Answer.{ok}
@@ -63,33 +64,32 @@ module _ (s : Scene) (z : Size) (is : List ℕ) where
 pub scene_many : (total : ℕ) (head : List ℕ) (f : File) → length (scene_of total head f) ≡ length f.items
 scene_many total head f = rw length-map
 
--- tiles_fit, test by test
+-- v is what the code makes of a && b, asking for b where a holds
+pub and-then : (a b v : Bool) → a ≡ true → v ≡ b → v ≡ (a && b)
+and-then a b v e q = q ∙ ap (λ (x : Bool). x && b) (sym e)
+
+pub and-not : (a b v : Bool) → a ≡ false → v ≡ a → v ≡ (a && b)
+and-not a b v e q = q ∙ e ∙ ap (λ (x : Bool). x && b) (sym e)
+
+-- tiles_fit, by what the code has of its tests one after the other
 module _ (s : Scene) (p : Picture) (g : Grid) (tile : Size) (e : tile ≡ first_input s p) where
-  pub tiles_unlike : all_size s tile p.inputs ≡ false → false ≡ tiles_fit s p g
+  three : (a b c d : Bool) → (a && ((b && c) && d)) ≡ (((a && b) && c) && d)
+  three true b c d = refl
+  three false b c d = refl
+
+  pub tiles-told : (m x y : Bool) → m ≡ all_size s tile p.inputs → x ≡ (m && leb g.wide (tile.wide * g.columns)) →
+      y ≡ (x && leb g.high (tile.high * g.rows)) → (z : Size) → z ≡ p.declared → tiles_fit s p g ≡ (y && same_size z (size g.wide g.high))
   unfolding tiles_fit
-  tiles_unlike q = rw (← e, q)
-
-  module _ (a : all_size s tile p.inputs ≡ true) where
-    pub tiles_narrow : leb g.wide (tile.wide * g.columns) ≡ false → false ≡ tiles_fit s p g
-    unfolding tiles_fit
-    tiles_narrow q = rw (← e, a, q)
-
-    module _ (b : leb g.wide (tile.wide * g.columns) ≡ true) where
-      pub tiles_low : leb g.high (tile.high * g.rows) ≡ false → false ≡ tiles_fit s p g
-      unfolding tiles_fit
-      tiles_low q = rw (← e, a, b, q)
-
-      pub tiles_over : leb g.high (tile.high * g.rows) ≡ true → (z : Size) → z ≡ p.declared → (t : Bool) →
-          t ≡ same_size z (size g.wide g.high) → t ≡ tiles_fit s p g
-      unfolding tiles_fit
-      tiles_over q z d t h = rw (← e, a, b, q, ← d) h
+  tiles-told m x y em ex ey z ez =
+      rw (← e, ey, ex, em, ez)
+      (three (all_size s tile p.inputs) (leb g.wide (tile.wide * g.columns)) (leb g.high (tile.high * g.rows)) (same_size p.declared (size g.wide g.high)))
 
 -- made_up, by the derivation that is read
-abbrev pub made_by : Scene → Picture → Derivation → Bool
-made_by s p made.Copy = same_size p.declared (first_input s p)
-made_by s p (made.Tiles down across wide high) = tiles_fit s p (record { rows = down; columns = across; wide = wide; high = high })
-made_by s p (made.Layers wide high) = same_size p.declared (size wide high)
-made_by s p made.Wrong = true
+abbrev pub made_by : Scene → Picture → Option Derivation → Bool
+made_by s p (Some made.Copy) = same_size p.declared (first_input s p)
+made_by s p (Some (made.Tiles down across wide high)) = tiles_fit s p (record { rows = down; columns = across; wide = wide; high = high })
+made_by s p (Some (made.Layers wide high)) = same_size p.declared (size wide high)
+made_by s p None = true
 
 made_told : (s : Scene) (p : Picture) (r : Recipe) → made_up s p r ≡ made_by s p (told_derivation (ok r))
 unfolding made_up told_derivation tiles_fit
@@ -104,11 +104,11 @@ made_underived : (s : Scene) (p : Picture) (t : Bool) → true ≡ made_up s p (
 unfolding made_up
 made_underived s p t = both (λ (r : Recipe). true ≡ made_up s p r) t Coded Opaque (λ q. refl) (λ q. refl)
 
-abbrev pub Feeds : Derivation → List ℕ → Type 0
-Feeds made.Copy is = 0 < length is
-Feeds (made.Tiles down across wide high) is = 0 < length is
-Feeds (made.Layers wide high) is = Unit {0}
-Feeds made.Wrong is = Unit {0}
+abbrev pub Feeds : Option Derivation → List ℕ → Type 0
+Feeds (Some made.Copy) is = 0 < length is
+Feeds (Some (made.Tiles down across wide high)) is = 0 < length is
+Feeds (Some (made.Layers wide high)) is = Unit {0}
+Feeds None is = Unit {0}
 
 shaped_feeds : (r : Recipe) (is : List ℕ) → Shaped r is → Feeds (told_derivation (ok r)) is
 unfolding told_derivation
@@ -166,52 +166,50 @@ module _ {t rows head : List ℕ} {total : ℕ} {f : File} (d : Drawn t rows hea
     pub fed-known : derived (item_at f r).type ≡ true → Readable total head f (id_of f r)
     fed-known kind = λ z. fed-body total head f (item_at f r) kind (d.fed r h)
 
-    -- the item is derived, and its derivation is read as x
-    module _ (kind : derived (item_at f r).type ≡ true) (x : Derivation) (e : x ≡ told_derivation (derivation_for total head f (item_at f r))) where
-      recipe-read : told_derivation (ok p.recipe) ≡ x
-      recipe-read = let k = recipe-ok total head f r i (d.fed r h) in
-          sym (e ∙ ap told_derivation (derived-recipe total head f (item_at f r) kind k.0 k.1 ∙ ap ok (sym k.2)))
+    -- the item is derived
+    module _ (kind : derived (item_at f r).type ≡ true) where
+      abbrev told : Option Derivation
+      told = told_derivation (derivation_for total head f (item_at f r))
 
-      pub made-read : (y : Derivation) → x ≡ y → made_by s p y ≡ made_up s p p.recipe
-      made-read y q = sym (made_told s p p.recipe ∙ ap (made_by s p) (recipe-read ∙ q))
+      -- and its derivation is read as x
+      module _ (x : Option Derivation) (e : x ≡ told) where
+        recipe-read : told_derivation (ok p.recipe) ≡ x
+        recipe-read = let k = recipe-ok total head f r i (d.fed r h) in
+            sym (e ∙ ap told_derivation (derived-recipe total head f (item_at f r) kind k.0 k.1 ∙ ap ok (sym k.2)))
 
-      fed-read : (y : Derivation) → x ≡ y → Feeds y targets
-      fed-read y q = subst (λ (y : Derivation). Feeds y targets) (recipe-read ∙ q)
-          (shaped_feeds p.recipe targets (inputs-fed total head f r i (d.fed r h)).0)
+        pub made-read : made_by s p x ≡ made_up s p p.recipe
+        made-read = sym (made_told s p p.recipe ∙ ap (made_by s p) recipe-read)
 
-      pub made-copy : x ≡ made.Copy → (k : ℕ) → (0 < length targets → k ≡ row_of (get_or targets 0 0) f.items) →
+        fed-read : Feeds x targets
+        fed-read = subst (λ (y : Option Derivation). Feeds y targets) recipe-read
+            (shaped_feeds p.recipe targets (inputs-fed total head f r i (d.fed r h)).0)
+
+      pub made-copy : Some made.Copy ≡ told → (k : ℕ) → (0 < length targets → k ≡ row_of (get_or targets 0 0) f.items) →
           (a z : Size) → a ≡ p.declared → ((s : Scene) → SizesAre t s → k < length s → z ≡ output_of (picture_at s k)) →
           (b : Bool) → b ≡ same_size a z
           → b ≡ made_up s p p.recipe
-      made-copy q k g a z ea o b eb =
-          let l = fed-read made.Copy q in
-          eb ∙ ap (λ (y : Size). same_size y z) ea ∙ ap (same_size p.declared) (input-size 0 l k (g l) z o) ∙ made-read made.Copy q
+      made-copy e k g a z ea o b eb =
+          let l = fed-read _ e in
+          eb ∙ ap (λ (y : Size). same_size y z) ea ∙ ap (same_size p.declared) (input-size 0 l k (g l) z o) ∙ made-read _ e
 
-      pub made_tiles : (down across wide high : ℕ) → x ≡ made.Tiles down across wide high → (b : Bool) →
+      pub made_tiles : (down across wide high : ℕ) → Some (made.Tiles down across wide high) ≡ told → (b : Bool) →
           (0 < length p.inputs → b ≡ tiles_fit s p (record
           { rows = down; columns = across; wide = wide; high = high })) → b ≡ made_up s p p.recipe
-      made_tiles down across wide high q b g =
-          let l = fed-read (made.Tiles down across wide high) q in
-          g (omega (arith, inputs-many)) ∙ made-read (made.Tiles down across wide high) q
+      made_tiles down across wide high e b g =
+          let l = fed-read _ e in
+          g (omega (arith, inputs-many)) ∙ made-read _ e
 
-      pub made_layers : (wide high : ℕ) → x ≡ made.Layers wide high → (a : Size) → a ≡ p.declared → (b : Bool) →
+      pub made_layers : (wide high : ℕ) → Some (made.Layers wide high) ≡ told → (a : Size) → a ≡ p.declared → (b : Bool) →
           b ≡ same_size a (size wide high) → b ≡ made_up s p p.recipe
-      made_layers wide high q a ea b eb = eb ∙ ap (λ (y : Size). same_size y (size wide high)) ea ∙ made-read (made.Layers wide high) q
+      made_layers wide high e a ea b eb = eb ∙ ap (λ (y : Size). same_size y (size wide high)) ea ∙ made-read _ e
 
--- good_sizes, test by test
+-- good_sizes, by what the code has of its tests one after the other
 module _ (s : Scene) (p : Picture) where
-  pub good_unmade : made_up s p p.recipe ≡ false → false ≡ good_sizes s p
+  two : (a b c : Bool) → (a && (b && c)) ≡ ((a && b) && c)
+  two true b c = refl
+  two false b c = refl
+
+  pub good-told : (m x : Bool) → m ≡ made_up s p p.recipe → x ≡ (m && good_size p.declared) → (z : Size) → z ≡ output_of p →
+      good_sizes s p ≡ (x && good_size z)
   unfolding good_sizes
-  good_unmade q = rw q
-
-  module _ (m : made_up s p p.recipe ≡ true) (a : Size) (e : a ≡ p.declared) where
-    pub good_undeclared : good_size a ≡ false → false ≡ good_sizes s p
-    unfolding good_sizes
-    good_undeclared q = rw (m, ← e, q)
-
-    good-rest : good_size a ≡ true → good_sizes s p ≡ good_size (output_of p)
-    unfolding good_sizes
-    good-rest q = rw (m, ← e, q)
-
-    pub good-declared : good_size a ≡ true → (z : Size) → z ≡ output_of p → (b : Bool) → b ≡ good_size z → b ≡ good_sizes s p
-    good-declared q z o b h = h ∙ ap (λ (y : Size). good_size y) o ∙ sym (good-rest q)
+  good-told m x em ex z ez = rw (ex, em, ez) (two (made_up s p p.recipe) (good_size p.declared) (good_size (output_of p)))

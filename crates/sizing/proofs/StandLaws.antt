@@ -10,13 +10,13 @@ use mathlib.Core.Path.{◌≡◌, refl, sym, ap, ◌∙◌}
 use mathlib.Core.List.{List}
 use mathlib.Core.Bool.{Bool, true, false}
 use mathlib.Core.Logic.{◌⊎◌, inl, inr}
+use Rattle.std.specs.Prelude.{Some, None, Ok, Err}
 use lib.ListN.{length, get_or, take, drop}
 use lib.Seq.{sets, length-sets}
 use lib.Dec.{ltb}
 use borrow.Author.Tests.{ltb-true, ltb-false}
-use Rattle.fields.proofs.TestLaws.{untrue}
-use Rattle.boxes.specs.declared.Refusal.{Refusal}
 use Rattle.boxes.specs.Answer.{Answer}
+use Rattle.boxes.specs.Told.{told}
 use Rattle.contents.specs.Iinf.{Item}
 use Rattle.contents.specs.File.{File}
 use Rattle.rules.specs.Joined.{item_at}
@@ -27,9 +27,6 @@ use Rattle.views.specs.inner.View.{TableOf, Judging, record_word, wide, id_of}
 use Rattle.views.specs.inner.Told.{fault_of}
 use Rattle.views.proofs.TableLaws.{row_small}
 use Rattle.sizing.specs.inner.Drawn.{sizes_in, ToldBefore}
-use Rattle.sizing.specs.inner.Told.{told_filled}
-use Rattle.sizing.specs.declared.Filled.{Filled}
-use Rattle.sizing.specs.declared.Filled.TheVariants.{All, Refused}
 use Rattle.sizing.proofs.FillLaws.{sizes-five}
 use Rattle.sizing.proofs.BeforeLaws.{before-none, before_more}
 use Rattle.sizing.proofs.OrderLaws.{from, declared_blames, order_end, order_on, order_off}
@@ -115,18 +112,17 @@ module _ (head t : List ℕ) where
   pub stands_begun : Stands head t 0 t
   stands_begun pl f v j = record { view = v; protection = λ r z h. j.protection r h; told = before-none t f; order = refl }
 
-  -- row k, whose number is m; the table is w then
+  -- row k, which is refused by the number m or not; the table is w then
   module _ (n k : ℕ) (u : List ℕ) (c : n ≡ get_or t 0 0) (h : Stands head t k u) where
-    module _ (d m : ℕ) (w : List ℕ) (l : k < n)
-        (fault : (pl : Places) (f : File) → TableOf u head pl f → k < length f.items →
-        record_word u k 12 ≡ (item_at f k).protection → ToldBefore u f k →
-        m ≡ fault_of (rule15-29-16 f (item_at f k))) where
-      pub stands-more : ((pl : Places) (f : File) → TableOf u head pl f → k < length f.items → ToldBefore u f k →
-          m ≡ 0 → w ≡ sets u (26 + 16 * k) (sizes_in f k d)) → m ≡ 0 → Stands head t (k + 1) w
-      stands-more put z pl f v j =
+    module _ (w : List ℕ) (l : k < n) where
+      pub stands-more : (d : ℕ) → ((pl : Places) (f : File) → TableOf u head pl f → k < length f.items →
+          record_word u k 12 ≡ (item_at f k).protection → ToldBefore u f k → None ≡ fault_of (rule15-29-16 f (item_at f k)))
+          → ((pl : Places) (f : File) → TableOf u head pl f → k < length f.items → ToldBefore u f k →
+          w ≡ sets u (26 + 16 * k) (sizes_in f k d)) → Stands head t (k + 1) w
+      stands-more d fault put pl f v j =
           let s = h pl f v j in
           let i : k < length f.items = omega (arith, v.items) in
-          let q = put pl f s.view i s.told z in
+          let q = put pl f s.view i s.told in
           let free = fault pl f s.view i (s.protection k (omega arith) i) s.told in
           let five = sizes-five f k d in
           let long : length w ≡ length u = ap length q ∙ length-sets u (26 + 16 * k) (sizes_in f k d) in
@@ -135,30 +131,23 @@ module _ (head t : List ℕ) where
           record {
             view = view-kept u w k (row_small v k i) long same head pl f s.view;
             protection = λ r a e. row_kept u w k (row_small v k i) long same r 12 (omega arith) ∙ s.protection r (omega arith) e;
-            told = before_more f k d u w s.view.enough (row_small v k i) q (sym free ∙ z);
-            order = s.order ∙ order_on (by_row f) f k m i (declared_blames f (item_at f k)) free z;
+            told = before_more f k d u w s.view.enough (row_small v k i) q (sym free);
+            order = s.order ∙ order_on (by_row f) f k i free;
           }
 
-      pub stands-refused : ((m ≡ 0 → ⊥) → w ≡ u) → (m ≡ 0 → ⊥) → (id : ℕ) → (k < 256 → id ≡ record_word w k 0)
+      pub stands-refused : (m : ℕ) → ((pl : Places) (f : File) → TableOf u head pl f → k < length f.items →
+          record_word u k 12 ≡ (item_at f k).protection → ToldBefore u f k → Some m ≡ fault_of (rule15-29-16 f (item_at f k)))
+          → w ≡ u → (id : ℕ) → (k < 256 → id ≡ record_word w k 0)
           → (pl : Places) (f : File) → TableOf t head pl f → Judging t f →
-          Refused (record { number = m; place = id }) ≡ told_filled (in_order (by_row f) 0 f.items)
-      unfolding told_filled
-      stands-refused left z id e pl f v j =
+          Err (record { number = m; place = id }) ≡ told (λ u. u) (in_order (by_row f) 0 f.items)
+      unfolding told
+      stands-refused m fault left id e pl f v j =
           let s = h pl f v j in
           let i : k < length f.items = omega (arith, v.items) in
-          let same : id ≡ id_of f k = e (row_small v k i) ∙ ap (λ (x : List ℕ). record_word x k 0) (left z) ∙ s.view.id k i in
-          rw same (sym (ap told_filled (s.order ∙ order_off (by_row f) f k m i (declared_blames f (item_at f k))
-          (fault pl f s.view i (s.protection k (omega arith) i) s.told) z)))
+          let same : id ≡ id_of f k = e (row_small v k i) ∙ ap (λ (x : List ℕ). record_word x k 0) left ∙ s.view.id k i in
+          rw same (sym (ap (told (λ u. u)) (s.order ∙ order_off (by_row f) f k i m (declared_blames f (item_at f k))
+          (fault pl f s.view i (s.protection k (omega arith) i) s.told))))
 
-    pub stands-done : k ≡ n → (pl : Places) (f : File) → TableOf t head pl f → Judging t f → All ≡ told_filled (in_order (by_row f) 0 f.items)
-    unfolding told_filled
-    stands-done z pl f v j = sym (ap told_filled ((h pl f v j).order ∙ order_end (by_row f) f k (omega (arith, v.items))))
-
--- a refusal is not All
-is_all : Filled → Bool
-is_all All = true
-is_all (Refused r) = false
-
-pub refused_all : {A : Type 0} (r : Refusal) → Refused r ≡ All → A
-unfolding is_all
-refused_all r e = untrue (ap is_all e)
+    pub stands-done : k ≡ n → (pl : Places) (f : File) → TableOf t head pl f → Judging t f → Ok tt ≡ told (λ u. u) (in_order (by_row f) 0 f.items)
+    unfolding told
+    stands-done z pl f v j = sym (ap (told (λ u. u)) ((h pl f v j).order ∙ order_end (by_row f) f k (omega (arith, v.items))))

@@ -7,11 +7,11 @@ mod turns;
 ghost use Rattle.std.specs.Prelude.{◌≡◌, ◌-◌, ◌≤◌};
 
 use boxes::Refusal;
+use boxes::types::{GRID, IDEN, IOVL};
 use canvas::{put, put_number, put_with};
-use corners::{Corner, Seen};
-use facing::Faced;
+use corners::Corner;
 use layout::{Margins, Part, Pose, ZERO};
-use pictures::{GridRead, OverlayRead, Size};
+use pictures::Size;
 use table::ItemRow;
 use words::PlaceKind;
 
@@ -44,15 +44,9 @@ fn no_margins() -> Margins {
 
 // A tile of a grid.
 fn tile_corner(head: &[u8], table: &[u32], rows: &[u32], row: ItemRow, k: u32, s: Size) -> Corner {
-    let g = derived::grid_of(head, table, rows, row);
-    match g {
-        GridRead::Wrong => Corner { x: ZERO, y: ZERO },
-        GridRead::Is {
-            rows: _,
-            columns,
-            wide: _,
-            high: _,
-        } => corners::tile_in(columns, k, s),
+    match derived::grid_of(head, table, rows, row) {
+        Some(g) => corners::tile_in(g.columns, k, s),
+        None => Corner { x: ZERO, y: ZERO },
     }
 }
 
@@ -60,14 +54,9 @@ fn tile_corner(head: &[u8], table: &[u32], rows: &[u32], row: ItemRow, k: u32, s
 fn corner_in(b: &[u8], n: usize, k: u32) -> Corner
     requires { n ≤ 2048 }
 {
-    let o = pictures::read_overlay(b, n);
-    match o {
-        OverlayRead::Wrong => Corner { x: ZERO, y: ZERO },
-        OverlayRead::Is {
-            wide: _,
-            high: _,
-            bytes,
-        } => corners::offset_in(b, bytes, k),
+    match pictures::read_overlay(b, n) {
+        Some(o) => corners::offset_in(b, o.bytes, k),
+        None => Corner { x: ZERO, y: ZERO },
     }
 }
 
@@ -92,20 +81,13 @@ fn copied_corner(
 fn joined_corner(head: &[u8], table: &[u32], rows: &[u32], row: ItemRow, n: usize, k: u32) -> Corner
     requires { n ≤ 2048 }
 {
-    let o = derived::joined_overlay(head, table, rows, row, n);
-    match o {
-        OverlayRead::Wrong => Corner { x: ZERO, y: ZERO },
-        OverlayRead::Is {
-            wide: _,
-            high: _,
-            bytes,
-        } => {
-            if bytes == 2 {
-                return copied_corner(head, table, rows, row, 2, k);
-            }
-            copied_corner(head, table, rows, row, 4, k)
-        }
+    let Some(o) = derived::joined_overlay(head, table, rows, row, n) else {
+        return Corner { x: ZERO, y: ZERO };
+    };
+    if o.bytes == 2 {
+        return copied_corner(head, table, rows, row, 2, k);
     }
+    copied_corner(head, table, rows, row, 4, k)
 }
 
 // An input of an overlay.
@@ -119,12 +101,6 @@ fn layer_corner(head: &[u8], table: &[u32], rows: &[u32], row: ItemRow, k: u32) 
     }
     corner_in(derived::body_of(head, table, row), n, k)
 }
-
-const IDEN: u32 = 0x6964656e;
-
-const GRID: u32 = 0x67726964;
-
-const IOVL: u32 = 0x696f766c;
 
 // Where the input with a number from 0 lies, which has the output size s.
 fn corner_of(head: &[u8], table: &[u32], rows: &[u32], row: ItemRow, k: u32, s: Size) -> Corner {
@@ -154,16 +130,7 @@ fn margins_of(head: &[u8], table: &[u32], rows: &[u32], d: u32, row: ItemRow) ->
 }
 
 fn is_cut(m: Margins) -> bool {
-    if 0 < m.left {
-        return true;
-    }
-    if 0 < m.top {
-        return true;
-    }
-    if 0 < m.right {
-        return true;
-    }
-    0 < m.bottom
+    0 < m.left || 0 < m.top || 0 < m.right || 0 < m.bottom
 }
 
 // The ID and type of an item, and what its transforms do.
@@ -229,7 +196,7 @@ fn lying_in(lying: Lying, part: Part, copied: bool) -> Lying {
         part,
         pose,
         around: lying.around,
-        copies: std::num::wrapping_add_u32(lying.copies, 1),
+        copies: lying.copies.wrapping_add(1),
         scale: lying.scale,
     }
 }
@@ -243,7 +210,7 @@ fn seen_at(
     k: u32,
     lying: Lying,
     s: Size,
-) -> Seen {
+) -> Option<Part> {
     let part = lying.part;
     let corner = corner_of(head, table, rows, row, k, s);
     corners::seen_of(
@@ -276,37 +243,27 @@ fn put_kept(head: &[u8], table: &[u32], rows: &[u32], input: ItemRow, lying: Lyi
 fn tag_layer(head: &[u8], table: &[u32], rows: &[u32], row: ItemRow, k: u32, lying: Lying) {
     let input = derived::input_of(table, rows, row, k as usize);
     let s = sizing::output_in(table, input);
-    let seen = seen_at(head, table, rows, row, k, lying, s);
-    match seen {
-        Seen::None => {}
-        Seen::Is(part) => {
-            open_input(head, table, rows, row, k, s);
-            let within = lying_in(lying, part, false);
-            canvas::put_under(s);
-            put_kept(head, table, rows, input, within);
-            put_tag(head, table, input, within);
-            canvas::close_group();
-        }
-    }
+    let Some(part) = seen_at(head, table, rows, row, k, lying, s) else {
+        return;
+    };
+    open_input(head, table, rows, row, k, s);
+    let within = lying_in(lying, part, false);
+    canvas::put_under(s);
+    put_kept(head, table, rows, input, within);
+    put_tag(head, table, input, within);
+    canvas::close_group();
 }
 
 // How many inputs an item has, at most 2,048.
 fn input_count(table: &[u32], row: ItemRow) -> u32
     ensures { result ≤ 2048 }
 {
-    let n = derived::input_count(table, row);
-    if 2048 < n {
-        return 2048;
-    }
-    n as u32
+    derived::input_count(table, row).min(2048) as u32
 }
 
 fn tag_layers(head: &[u8], table: &[u32], rows: &[u32], row: ItemRow, lying: Lying) {
-    let n = input_count(table, row);
-    let mut k: u32 = 0;
-    while k < n {
+    for k in 0..input_count(table, row) {
         tag_layer(head, table, rows, row, k, lying);
-        k += 1;
     }
 }
 
@@ -370,16 +327,13 @@ fn draw_reconstructed(
 {
     let pose = lying.pose;
     open_item(table, row, pose);
-    let n = input_count(table, row);
     let mut rest = limit.left;
-    let mut k: u32 = 0;
-    while k < n {
+    for k in 0..input_count(table, row) {
         let further = Limit {
             down: limit.down,
             left: rest,
         };
         rest = draw_input(head, table, rows, further, row, k, lying);
-        k += 1;
     }
     close_item(head, table, rows, row, lying);
     rest
@@ -401,27 +355,21 @@ fn draw_input(
     let copied = views::type_of(table, row) == IDEN;
     let input = derived::input_of(table, rows, row, k as usize);
     let s = sizing::output_in(table, input);
-    let seen = seen_at(head, table, rows, row, k, lying, s);
-    match seen {
-        Seen::None => layout::fewer(limit.left),
-        Seen::Is(part) => {
-            open_input(head, table, rows, row, k, s);
-            if limit.down == 0 {
-                return shut(table, input, s);
-            }
-            if limit.left == 0 {
-                return shut(table, input, s);
-            }
-            let within = lying_in(lying, part, copied);
-            let further = Limit {
-                down: limit.down - 1,
-                left: limit.left - 1,
-            };
-            let rest = draw_output(head, table, rows, further, input, within);
-            close_input(head, table, rows, input, within, copied);
-            rest
-        }
+    let Some(part) = seen_at(head, table, rows, row, k, lying, s) else {
+        return limit.left.saturating_sub(1);
+    };
+    open_input(head, table, rows, row, k, s);
+    if limit.down == 0 || limit.left == 0 {
+        return shut(table, input, s);
     }
+    let within = lying_in(lying, part, copied);
+    let further = Limit {
+        down: limit.down - 1,
+        left: limit.left - 1,
+    };
+    let rest = draw_output(head, table, rows, further, input, within);
+    close_input(head, table, rows, input, within, copied);
+    rest
 }
 
 // A picture that is not gone into.
@@ -439,10 +387,8 @@ fn shut(table: &[u32], input: ItemRow, s: Size) -> u32
 
 // The orientation that says an item's transforms, if one does: none says a crop.
 fn put_orientation(head: &[u8], table: &[u32], row: ItemRow) {
-    let o = facing::orientation_of(head, table, row);
-    match o {
-        Faced::Is(n) => put_with(b", orientation ", n),
-        Faced::Cropped => {}
+    if let Some(n) = facing::orientation_of(head, table, row) {
+        put_with(b", orientation ", n);
     }
 }
 

@@ -12,10 +12,7 @@ fn record_at(points: &[[u32; 9]], i: usize) -> [u32; 9] {
 
 // Whether two points end in the same coded picture or in the same fill, or lie both outside.
 fn is_alike(r: [u32; 9], t: [u32; 9]) -> bool {
-    if r[4] != t[4] {
-        return false;
-    }
-    r[5] == t[5]
+    r[4] == t[4] && r[5] == t[5]
 }
 
 // Whether a point ends otherwise than the one before it.
@@ -81,11 +78,8 @@ fn put_point(points: &[[u32; 9]], i: usize, halo: bool) {
 }
 
 fn put_runs(points: &[[u32; 9]], halo: bool) {
-    let n = points.len();
-    let mut i: usize = 0;
-    while i < n {
+    for i in 0..points.len() {
         put_point(points, i, halo);
-        i += 1;
     }
     put(b"'/>\n");
 }
@@ -111,12 +105,10 @@ pub fn put_seam(points: &[[u32; 9]], scale: u32) {
 // Whether no point before it ends where a point does.
 fn is_new(points: &[[u32; 9]], i: usize) -> bool {
     let r = record_at(points, i);
-    let mut j: usize = 0;
-    while j < i {
+    for j in 0..i {
         if is_alike(record_at(points, j), r) {
             return false;
         }
-        j += 1;
     }
     true
 }
@@ -158,10 +150,8 @@ pub fn put_names(points: &[[u32; 9]]) {
     }
     put(b"<text x='500' y='955' font-weight='bold'>along the seam:");
     let mut left: u32 = 8;
-    let mut i: usize = 0;
-    while i < n {
+    for i in 0..n {
         left = named(points, i, left);
-        i += 1;
     }
     put(b"</text>\n");
 }

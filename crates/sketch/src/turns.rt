@@ -18,12 +18,10 @@ pub fn open_turns(head: &[u8], table: &[u32], row: ItemRow, j: usize, s: Size, a
 pub fn close_turns(head: &[u8], table: &[u32], row: ItemRow, s: Size, around: bool) {
     let n = declared::property_count(table, row);
     let mut size = s;
-    let mut j: usize = 0;
-    while j < n {
+    for j in 0..n {
         let t = turn_at(head, table, row, j, size);
         canvas::close_turn(t, size, around);
         size = pictures::size_after(t, size);
-        j += 1;
     }
 }
 
@@ -31,12 +29,10 @@ pub fn close_turns(head: &[u8], table: &[u32], row: ItemRow, s: Size, around: bo
 pub fn put_turns(head: &[u8], table: &[u32], row: ItemRow) {
     let n = declared::property_count(table, row);
     let mut size = sizing::declared_in(table, row);
-    let mut j: usize = 0;
-    while j < n {
+    for j in 0..n {
         let t = turn_at(head, table, row, j, size);
         canvas::put_turn(t);
         size = pictures::size_after(t, size);
-        j += 1;
     }
 }
 
@@ -56,8 +52,7 @@ pub fn say_turns(head: &[u8], table: &[u32], row: ItemRow) {
     let n = declared::property_count(table, row);
     let mut size = sizing::declared_in(table, row);
     let mut said: u32 = 0;
-    let mut j: usize = 0;
-    while j < n {
+    for j in 0..n {
         said = said_after(said, declared::kind_of(table, row, j));
         if said == 5 {
             return put(b" ..");
@@ -65,6 +60,5 @@ pub fn say_turns(head: &[u8], table: &[u32], row: ItemRow) {
         let t = turn_at(head, table, row, j, size);
         canvas::say_turn(t);
         size = pictures::size_after(t, size);
-        j += 1;
     }
 }

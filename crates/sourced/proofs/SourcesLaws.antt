@@ -7,8 +7,8 @@ use mathlib.Core.Bool.{true, false}
 use lib.ListN.{length, get_or, drop}
 use lib.Dec.{leb, eqb}
 use borrow.Author.Tests.{le-leb, lt-leb}
-use Rattle.table.specs.declared.ItemRow.{ItemRow}
-use Rattle.boxes.specs.Answer.{ok, check, ◌>>=◌, ◌>>◌}
+use Rattle.std.specs.Prelude.{Result, Ok, Err}
+use Rattle.boxes.specs.Answer.{ok, refuse, check, ◌>>=◌, ◌>>◌}
 use Rattle.boxes.specs.declared.Refusal.{Refusal}
 use Rattle.contents.specs.File.{File}
 use Rattle.pictures.specs.Scene.{Scene}
@@ -27,11 +27,8 @@ use Rattle.needed.specs.inner.Marked.{marked_of}
 use Rattle.needed.proofs.SourcesLaws.{marked-sources}
 use Rattle.judging.proofs.SceneLaws.{scene_long, inputs_are}
 use Rattle.tracing.specs.inner.Told.{Shown}
-use Rattle.asked.specs.Told.{told_pictured}
-use Rattle.asked.specs.declared.Pictured.TheVariants as pictures
-use Rattle.asked.proofs.PicturedLaws.{picture-listed, pictured-refused, pictured-row, picture-image}
+use Rattle.asked.proofs.PicturedLaws.{picture-listed, picture-image}
 use Rattle.sourced.specs.Told.{told_listed}
-use Rattle.sourced.specs.declared.Listed.TheVariants as listed
 
 -- sources_in
 module _ {t rows head : List ℕ} {total : ℕ} {f : File} (w : Shown t rows head total f) (id room : ℕ) (l : List ℕ) where
@@ -39,45 +36,42 @@ module _ {t rows head : List ℕ} {total : ℕ} {f : File} (w : Shown t rows hea
   s = scene_of total head f
 
   -- what is answered, and what is left in the list
-  abbrev Told : listed.the_data → List ℕ → Type 0
+  abbrev Told : Result ℕ Refusal → List ℕ → Type 0
   Told x m = (x ≡ told_listed (sources_in s f id room)) × (m ≡ list_after (sources_in s f id room) l)
 
-  pub sources_off : (y : Refusal) → told_pictured (pictured f id) ≡ pictures.Refused y → Told (listed.Refused y) l
+  pub sources_off : (y : Refusal) → pictured f id ≡ refuse y.number y.place → Told (Err y) l
   unfolding sources_in ◌>>=◌ told_listed list_after
-  sources_off y e = let z = pictured-refused (pictured f id) y e in (rw z, rw z)
+  sources_off y e = (rw e, rw e)
 
-  module _ (r : ItemRow) (e : told_pictured (pictured f id) ≡ pictures.At r) where
-    is_row : pictured f id ≡ ok r.0
-    is_row = pictured-row (pictured f id) r e
-
-    listed-row : r.0 < length f.items
-    listed-row = picture-listed f id r.0 is_row
+  module _ (r : ℕ) (is_row : pictured f id ≡ ok r) where
+    listed-row : r < length f.items
+    listed-row = picture-listed f id r is_row
 
     -- the marks of needed_of leave the sources
     module _ (n : ℕ) (marks : List ℕ) (counted : n ≡ get_or t 0 0)
-        (needed : (s : Scene) → length s ≡ n → InputsAre t rows s → r.0 < n → depth s r.0 ≤ 16 → (c : ℕ) → c < n →
-        eqb (get_or marks c 0) 1 ≡ needs s r.0 c) where
-      pub sources_are : marked_of t marks n ≡ Sources.sources s r.0
+        (needed : (s : Scene) → length s ≡ n → InputsAre t rows s → r < n → depth s r ≤ 16 → (c : ℕ) → c < n →
+        eqb (get_or marks c 0) 1 ≡ needs s r c) where
+      pub sources_are : marked_of t marks n ≡ Sources.sources s r
       sources_are =
           let k : n ≡ length f.items = counted ∙ w.followed.view.items in
           let i = inputs_are total head f t rows (places_in total head) w.followed.view w.resolved w.fed in
           let g = good-picture s w.good (rw (scene_long total head f) listed-row)
-          (shaped-drawn _ _ (inputs-fed total head f r.0 (picture-image f id r.0 is_row)
-          (w.fed r.0 listed-row)).0) in
-          rw k (marked-sources t marks head total (places_in total head) f r.0 w.followed.view w.fed
+          (shaped-drawn _ _ (inputs-fed total head f r (picture-image f id r is_row)
+          (w.fed r listed-row)).0) in
+          rw k (marked-sources t marks head total (places_in total head) f r w.followed.view w.fed
           (λ c h. needed s (scene_long total head f ∙ sym k) i (omega (arith, k, listed-row)) g.shallow c
           (omega (arith, k))))
 
       -- 24
-      pub sources-over : room < length (marked_of t marks n) → (y : Refusal) → y.number ≡ 24 → y.place ≡ id → Told (listed.Refused y) l
+      pub sources-over : room < length (marked_of t marks n) → (y : Refusal) → y.number ≡ 24 → y.place ≡ id → Told (Err y) l
       unfolding sources_in ◌>>=◌ ◌>>◌ check told_listed list_after
       sources-over h y a b =
-          let z : leb (length (Sources.sources s r.0)) room ≡ false = lt-leb (length (Sources.sources s r.0)) room (rw (← sources_are) h) in
+          let z : leb (length (Sources.sources s r)) room ≡ false = lt-leb (length (Sources.sources s r)) room (rw (← sources_are) h) in
           (rw (is_row, z, ← a, ← b), rw (is_row, z))
 
       pub sources-fit : length (marked_of t marks n) ≤ room → (c : ℕ) (m : List ℕ) → c ≡ length (marked_of t marks n) →
-          m ≡ marked_of t marks n ++ drop (length (marked_of t marks n)) l → Told (listed.Is c) m
+          m ≡ marked_of t marks n ++ drop (length (marked_of t marks n)) l → Told (Ok c) m
       unfolding sources_in ◌>>=◌ ◌>>◌ check told_listed list_after
       sources-fit h c m a b =
-          let z : leb (length (Sources.sources s r.0)) room ≡ true = le-leb (length (Sources.sources s r.0)) room (rw (← sources_are) h) in
+          let z : leb (length (Sources.sources s r)) room ≡ true = le-leb (length (Sources.sources s r)) room (rw (← sources_are) h) in
           (rw (is_row, z, a, sources_are), rw (is_row, z, b, sources_are))

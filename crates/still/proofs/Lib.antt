@@ -1,8 +1,6 @@
+pub mod OpenedLaws
 pub mod QuestionLaws
-pub mod TraceLaws
 pub mod PropertyLaws
-pub mod SourcesLaws
-pub mod OrientationLaws
 pub mod PointsLaws
 pub mod Again
 pub mod Share

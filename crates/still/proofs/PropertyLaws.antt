@@ -9,6 +9,7 @@ use lib.ListN.{length, get_or}
 use lib.Dec.{leb}
 use borrow.Author.Tests.{leb-true}
 use Rattle.fields.proofs.TestLaws.{and_both}
+use Rattle.std.specs.Prelude.{Ok, Err}
 use Rattle.table.specs.declared.PropertyIndex.{PropertyIndex}
 use Rattle.boxes.specs.Answer.{Answer, ok, refuse, check, ◌>>=◌, ◌>>◌}
 use Rattle.boxes.proofs.AnswerLaws.{bind_ok, bind_refuse, then_ok, check-ok, ok_inj}
@@ -21,24 +22,20 @@ use Rattle.questions.specs.Questions.{Part, part_of, property_in, property}
 use Rattle.views.specs.inner.View.{TableOf}
 use Rattle.views.specs.Lies.{LiesAt}
 use Rattle.views.proofs.TableLaws.{property-none}
-use Rattle.opening.specs.Told.{told_opened}
-use Rattle.opening.specs.declared.Opened.TheVariants as opens
-use Rattle.opening.proofs.FileLaws.{opened-refused}
 use Rattle.asked.specs.Told.{index_in, told_asked}
-use Rattle.asked.specs.declared.PropertyAsked.TheVariants as asked
 use Rattle.still.specs.Told.{index_of, told_part, told_fault}
 use Rattle.still.specs.Given.{PartPlaced}
 
 -- told_asked
-asked-refused : (m : Answer ℕ) (y : Refusal) → told_asked m ≡ asked.Refused y → m ≡ refuse y.number y.place
+asked-refused : (m : Answer ℕ) (y : Refusal) → told_asked m ≡ Err y → m ≡ refuse y.number y.place
 unfolding told_asked
-asked-refused (ok r) y e = let z : ◌≡◌ {A = ℕ} 0 1 = cc in absurd (omega arith)
+asked-refused (ok r) y e = cc
 asked-refused (refuse n p) y e = let i : n ≡ y.number = cc in let j : p ≡ y.place = cc in rw (i, j)
 
-asked-index : (m : Answer ℕ) (i : PropertyIndex) → told_asked m ≡ asked.Is i → m ≡ ok i.0
+asked-index : (m : Answer ℕ) (i : PropertyIndex) → told_asked m ≡ Ok i → m ≡ ok i.0
 unfolding told_asked
 asked-index (ok k) i e = let j : k ≡ i.0 = cc in rw j
-asked-index (refuse n p) i e = let z : ◌≡◌ {A = ℕ} 0 1 = cc in absurd (omega arith)
+asked-index (refuse n p) i e = cc
 
 -- property_in: the part that the index names
 then-part : {A B : Type 0} (c : Answer (Unit {0})) (a : A) (g : A → B) → (c >> ok (g a)) ≡ ((c >> ok a) >>= (λ i. ok (g i)))
@@ -71,20 +68,20 @@ index-there t head pl f id k i v e =
 
 -- property
 module _ (total : ℕ) (head t : List ℕ) (id k : ℕ) where
-  pub property-refused : (y : Refusal) → told_asked (index_of (length t) total head id k) ≡ asked.Refused y →
+  pub property-refused : (y : Refusal) → told_asked (index_of (length t) total head id k) ≡ Err y →
       property (length t) total head id k ≡ refuse y.number y.place
   unfolding index_of property ◌>>=◌
   property-refused y e =
       ⊎_elim (λ h. rw h) (λ h. rw (h.1, property-by (places_in total head) h.0 id k, h.2))
       (bind_refuse (opened (length t) total head) (λ f. index_in f id k) y.number y.place (asked-refused _ y e))
 
-  pub property_off : (y : Refusal) → told_asked (index_of (length t) total head id k) ≡ asked.Refused y →
+  pub property_off : (y : Refusal) → told_asked (index_of (length t) total head id k) ≡ Err y →
       ([] ≡ told_part (property (length t) total head id k)) ×
       ((y.number ∷ y.place ∷ []) ≡ told_fault (property (length t) total head id k))
   unfolding told_part told_fault
   property_off y e = let z = property-refused y e in (rw z, rw z)
 
-  pub property-found : (i : PropertyIndex) → told_asked (index_of (length t) total head id k) ≡ asked.Is i → (f : File) ×
+  pub property-found : (i : PropertyIndex) → told_asked (index_of (length t) total head id k) ≡ Ok i → (f : File) ×
       (opened (length t) total head ≡ ok f) × (index_in f id k ≡ ok i.0)
   unfolding index_of
   property-found i e = bind_ok _ _ i.0 (asked-index _ i e)
@@ -108,19 +105,9 @@ module _ (total : ℕ) (head t : List ℕ) (id k : ℕ) where
         subst (λ (r : Part). LiesAt base r.offset place) z
         (lies (λ n. some (ap (λ (r : Part). r.bytes) (sym z) ∙ property-none f i n)))
 
-  pub property-nowhere : (y : Refusal) → told_asked (index_of (length t) total head id k) ≡ asked.Refused y →
+  pub property-nowhere : (y : Refusal) → told_asked (index_of (length t) total head id k) ≡ Err y →
       (base place : ℕ × ℕ) → PartPlaced head total t base place id k
   property-nowhere y e base place p q some = never (sym (property-refused y e) ∙ q)
     where
       never : refuse y.number y.place ≡ ok p → LiesAt base p.offset place
       never a = let z : ◌≡◌ {A = ℕ} 0 1 = cc in absurd (omega arith)
-
-  -- which property is asked for
-  pub asked_off : (y : Refusal) → told_opened (opened (length t) total head) ≡ opens.Refused y →
-      asked.Refused y ≡ told_asked (index_of (length t) total head id k)
-  unfolding index_of ◌>>=◌ told_asked
-  asked_off y e = rw (opened-refused _ y e)
-
-  pub asked-on : (f : File) → opened (length t) total head ≡ ok f → told_asked (index_in f id k) ≡ told_asked (index_of (length t) total head id k)
-  unfolding index_of ◌>>=◌
-  asked-on f e = rw e

@@ -26,54 +26,57 @@ ghost use Rattle.still.specs.Given.{
 };
 ghost use Rattle.still.specs.inner.Read.{OrderGiven, AskedRead, PropertyRead};
 
-use asked::{FileVerdict, PropertyAsked, Sized};
-use bodied::Bodied;
+use asked::{Sizes, Verdict};
 use boxes::Refusal;
-use facing::{Oriented, TransformList};
-use opening::Opened;
+use facing::TransformList;
 use pictures::Point;
-use seam::{PointRecord, PointsFilled};
-use sourced::Listed;
-use table::{ItemId, Table};
+use seam::PointRecord;
+use table::{ItemId, PropertyIndex, Table};
 use traced::Traced;
 
 // Whether the file is accepted, with its item count and primary item ID.
-pub fn verdict(head: &[u8], total: u64, table: &mut [u32]) -> FileVerdict
+pub fn verdict(head: &[u8], total: u64, table: &mut [u32]) -> Result<Verdict, Refusal>
     ensures { VerdictGiven head.now total table.old result table.new }
 {
     let mut rows = [0u32; 2816];
     let o = opening::open_rows(head, total, &mut *table, &mut rows);
     let answer = match o {
-        Opened::Refused(f) => FileVerdict::Refused(f),
-        Opened::Accepted => asked::verdict_in(&*table),
+        Err(f) => Err(f),
+        Ok(()) => asked::verdict_in(&*table),
     };
     arranged::arrange(table, &rows);
     answer
 }
 
 // Reconstructed and output width and height, and the depth, of an item.
-pub fn size(head: &[u8], total: u64, table: &mut [u32], id: ItemId) -> Sized
+pub fn size(head: &[u8], total: u64, table: &mut [u32], id: ItemId) -> Result<Sizes, Refusal>
     ensures { SizeGiven head.now total table.old id.0 result table.new }
 {
     let mut rows = [0u32; 2816];
     let o = opening::open_rows(head, total, &mut *table, &mut rows);
     let answer = match o {
-        Opened::Refused(f) => Sized::Refused(f),
-        Opened::Accepted => asked::size_in(&*table, id),
+        Err(refusal) => Err(refusal),
+        Ok(()) => asked::size_in(&*table, id),
     };
     arranged::arrange(table, &rows);
     answer
 }
 
 // Pixel or fill, item ID, x and y there, and the items passed, for the output pixel p of an item.
-pub fn trace(head: &[u8], total: u64, table: &mut [u32], id: ItemId, p: Point) -> Traced
+pub fn trace(
+    head: &[u8],
+    total: u64,
+    table: &mut [u32],
+    id: ItemId,
+    p: Point,
+) -> Result<Traced, Refusal>
     ensures { TraceGiven head.now total table.old id.0 p result table.new }
 {
     let mut rows = [0u32; 2816];
     let o = opening::open_rows(head, total, &mut *table, &mut rows);
     let answer = match o {
-        Opened::Refused(f) => Traced::Refused(f),
-        Opened::Accepted => traced::trace_in(head, &*table, &rows, id, p),
+        Err(f) => Err(f),
+        Ok(()) => traced::trace_in(head, &*table, &rows, id, p),
     };
     arranged::arrange(table, &rows);
     answer
@@ -86,50 +89,56 @@ pub fn point_numbers(
     table: &mut [u32],
     id: ItemId,
     points: &mut [[u32; 9]],
-) -> PointsFilled
+) -> Result<u32, Refusal>
     ensures { PointNumbersGiven head.now total table.old id.0 points.old result
         points.new table.new }
 {
     let mut rows = [0u32; 2816];
     let o = opening::open_rows(head, total, &mut *table, &mut rows);
     let answer = match o {
-        Opened::Refused(f) => PointsFilled::Refused(f),
-        Opened::Accepted => seam::numbers_in(head, &*table, &rows, id, points),
+        Err(f) => Err(f),
+        Ok(()) => seam::numbers_in(head, &*table, &rows, id, points),
     };
     arranged::arrange(table, &rows);
     answer
 }
 
 // The IDs of all coded items that an item needs, each once, in table order, into a lent list.
-pub fn sources(head: &[u8], total: u64, table: &mut [u32], id: ItemId, list: &mut [u32]) -> Listed
+pub fn sources(
+    head: &[u8],
+    total: u64,
+    table: &mut [u32],
+    id: ItemId,
+    list: &mut [u32],
+) -> Result<usize, Refusal>
     ensures { SourcesGiven head.now total table.old id.0 list.old result list.new table.new }
 {
     let mut rows = [0u32; 2816];
     let o = opening::open_rows(head, total, &mut *table, &mut rows);
     let answer = match o {
-        Opened::Refused(f) => Listed::Refused(f),
-        Opened::Accepted => sourced::sources_in(&*table, &rows, id, list),
+        Err(f) => Err(f),
+        Ok(()) => sourced::sources_in(&*table, &rows, id, list),
     };
     arranged::arrange(table, &rows);
     answer
 }
 
 // The number of 1 to 8 that says what the transforms of an item do.
-pub fn orientation(head: &[u8], total: u64, table: &mut [u32], id: ItemId) -> Oriented
+pub fn orientation(head: &[u8], total: u64, table: &mut [u32], id: ItemId) -> Result<u32, Refusal>
     ensures { OrientationGiven head.now total table.old id.0 result table.new }
 {
     let mut rows = [0u32; 2816];
     let o = opening::open_rows(head, total, &mut *table, &mut rows);
     let answer = match o {
-        Opened::Refused(f) => Oriented::Refused(f),
-        Opened::Accepted => facing::orientation_in(head, &*table, id),
+        Err(f) => Err(f),
+        Ok(()) => facing::orientation_in(head, &*table, id),
     };
     arranged::arrange(table, &rows);
     answer
 }
 
 // The shortest list of transforms that does what an orientation says: 27 where it is none of 1 to 8. No file is read.
-pub fn transforms(orientation: u32) -> TransformList
+pub fn transforms(orientation: u32) -> Result<TransformList, Refusal>
     ensures { TransformsGiven orientation result }
 {
     facing::transforms_for(orientation)
@@ -143,16 +152,13 @@ fn index_read(
     rows: &mut [u32],
     id: ItemId,
     k: u32,
-) -> PropertyAsked
+) -> Result<PropertyIndex, Refusal>
     requires { 2816 ≤ length rows.old }
     ensures asked_read { AskedRead head.now total table.old id.0 k result table.new }
     ensures order_given { OrderGiven head.now total table.old rows.new }
 {
-    let o = opening::open_rows(head, total, table, rows);
-    match o {
-        Opened::Refused(f) => PropertyAsked::Refused(f),
-        Opened::Accepted => asked::property_index(&*table, id, k),
-    }
+    opening::open_rows(head, total, table, rows)?;
+    asked::property_index(&*table, id, k)
 }
 
 // Which property is asked for, of any file.
@@ -162,7 +168,7 @@ pub fn property_asked(
     table: &mut [u32],
     id: ItemId,
     k: u32,
-) -> PropertyAsked
+) -> Result<PropertyIndex, Refusal>
     ensures { AskedGiven head.now total table.old id.0 k result table.new }
 {
     let mut rows = [0u32; 2816];
@@ -189,11 +195,11 @@ fn part_read<'a>(
 {
     let a = index_read(head, total, &mut *table, rows, id, k);
     match a {
-        PropertyAsked::Refused(f) => {
+        Err(f) => {
             *told = [f.number as u64, f.place];
             &head[..0]
         }
-        PropertyAsked::Is(index) => {
+        Ok(index) => {
             *told = [0, 0];
             views::property_box(head, &*table, index)
         }
@@ -228,18 +234,15 @@ fn ready(
     rows: &mut [u32],
     id: ItemId,
     n: usize,
-) -> PointsFilled
+) -> Result<u32, Refusal>
     requires { 2816 ≤ length rows.old }
     ensures value { (result ≡ Points.told_points_filled (Points.points (length table.old) total head.now id.0 n))
         × ((table.new ≡ file_after total head.now table.old)
         × ((count_of result ≡ 0) ⊎ AtHand head.now total table.new rows.new)) }
     ensures order_given { OrderGiven head.now total table.old rows.new }
 {
-    let o = opening::open_rows(head, total, table, rows);
-    match o {
-        Opened::Refused(f) => PointsFilled::Refused(f),
-        Opened::Accepted => seam::points_in(&*table, id, n),
-    }
+    opening::open_rows(head, total, table, rows)?;
+    seam::points_in(&*table, id, n)
 }
 
 // Many points of an item at once, each answered in its own record as a single trace would answer it.
@@ -249,7 +252,7 @@ pub fn points(
     table: &mut [u32],
     id: ItemId,
     points: &mut [PointRecord],
-) -> PointsFilled
+) -> Result<u32, Refusal>
     ensures { PointsGiven head.now total table.old id.0 points.old result points.new table.new }
 {
     let mut rows = [0u32; 2816];
@@ -261,23 +264,29 @@ pub fn points(
 }
 
 // 1, or 31: a buffer that is too short for some body.
-fn short_buffer(table: &mut [u32], id: ItemId) -> Bodied
+fn short_buffer(table: &mut [u32], id: ItemId) -> Result<usize, Refusal>
     ensures { (total : ℕ) (head : List ℕ) (room : ℕ) → room < 16402 →
         (result ≡ told_bodied (Body.body (length table.old) room total head id.0)) ×
         (table.new ≡ room_left after room total head table.old) }
 {
     if table.len() < Table::WORDS {
-        return Bodied::Refused(Refusal {
+        return Err(Refusal {
             number: 1,
             place: 0,
         });
     }
     table::clear(table);
-    Bodied::Refused(asked::refusal(31, id))
+    Err(asked::refusal(31, id))
 }
 
 // The joined body of an item into a lent buffer, first in it and the rest as before: its length, 0 for a coded item and `iden`.
-pub fn body(head: &[u8], total: u64, table: &mut [u32], id: ItemId, buffer: &mut [u8]) -> Bodied
+pub fn body(
+    head: &[u8],
+    total: u64,
+    table: &mut [u32],
+    id: ItemId,
+    buffer: &mut [u8],
+) -> Result<usize, Refusal>
     ensures { BodyGiven head.now total table.old id.0 buffer.old result buffer.new
         table.new }
 {
@@ -287,8 +296,8 @@ pub fn body(head: &[u8], total: u64, table: &mut [u32], id: ItemId, buffer: &mut
     let mut rows = [0u32; 2816];
     let o = opening::open_rows(head, total, &mut *table, &mut rows);
     let answer = match o {
-        Opened::Refused(f) => Bodied::Refused(f),
-        Opened::Accepted => bodied::body_in(head, &*table, &rows, id, buffer),
+        Err(f) => Err(f),
+        Ok(()) => bodied::body_in(head, &*table, &rows, id, buffer),
     };
     arranged::arrange(table, &rows);
     answer

@@ -6,6 +6,7 @@ use mathlib.Core.List.{List, [], ◌++◌}
 use lib.ListN.{length}
 use borrow.Author.Tests.{ne_eqb, leb-true}
 use lib.Dec.{leb}
+use Rattle.std.specs.Prelude.{Ok, Err}
 use Rattle.fields.specs.Choice.{pick}
 use Rattle.fields.proofs.TestLaws.{and_both}
 use Rattle.boxes.specs.Answer.{ok}
@@ -29,18 +30,17 @@ use Rattle.views.proofs.ViewLaws.{words-view}
 use Rattle.views.proofs.LayoutLaws.{by-id-few, layout_left}
 use Rattle.asked.specs.Told.{told_asked}
 use Rattle.still.specs.Told.{index_of}
-use Rattle.asked.specs.declared.PropertyAsked.TheVariants as asked
 use Rattle.still.proofs.PropertyLaws.{property-refused, property-found, property-is, index-there}
 use Rattle.out.specs.Out.{out_refused, out_part}
 
 -- out_part of the property that was asked for; lent is the table as it was lent, t as it is left
 module _ (total : ℕ) (head lent : List ℕ) (item k : ℕ) where
-  pub asked-refused : (y : Refusal) → told_asked (index_of (length lent) total head item k) ≡ asked.Refused y →
+  pub asked-refused : (y : Refusal) → told_asked (index_of (length lent) total head item k) ≡ Err y →
       out_refused y.number y.place ≡ out_part (property (length lent) total head item k)
   unfolding out_part
   asked-refused y e = rw (property-refused total head lent item k y e)
 
-  pub asked-found : (i : PropertyIndex) → told_asked (index_of (length lent) total head item k) ≡ asked.Is i →
+  pub asked-found : (i : PropertyIndex) → told_asked (index_of (length lent) total head item k) ≡ Ok i →
       total < 18446744073709551616 → (t r : List ℕ) → t ≡ after total head lent
       → ((f : File) (records x : List ℕ) → t ≡ words_with records total head f ++ x → length records ≤ 4096 → Bounded f →
       i.0 ≤ length f.properties → r ≡ out_part (ok (part_of (places_in total head) f i.0)))

@@ -19,9 +19,9 @@ ghost use Rattle.still_c.specs.Given.{
   BodyGiven,
 };
 
-use asked::PropertyAsked;
+use boxes::Refusal;
 use pictures::Point;
-use table::ItemId;
+use table::{ItemId, PropertyIndex};
 
 // Whether the file is accepted.
 #[unsafe(no_mangle)]
@@ -99,14 +99,14 @@ pub extern "C" fn still_sources(
 }
 
 // The offset and the length of the property box that was asked for, of any file.
-fn property_numbers(table: &[u32], a: PropertyAsked) -> [u64; 8]
+fn property_numbers(table: &[u32], a: Result<PropertyIndex, Refusal>) -> [u64; 8]
     ensures { (total : ℕ) (head lent : List ℕ) (item k : ℕ) → total < 18446744073709551616 →
         a ≡ told_asked (index_of (length lent) total head item k) → table.now ≡ after total head lent →
         result ≡ out_part (Q.property (length lent) total head item k) }
 {
     match a {
-        PropertyAsked::Refused(f) => out::refused_numbers(f),
-        PropertyAsked::Is(index) => out::part_numbers(table, index),
+        Err(f) => out::refused_numbers(f),
+        Ok(index) => out::part_numbers(table, index),
     }
 }
 

@@ -2,11 +2,11 @@
 use Prim.Native.Nat.{ℕ, ◌<◌, ◌≤◌}
 use mathlib.Core.Path.{◌≡◌, refl, sym, subst}
 use mathlib.Core.List.{List}
-use mathlib.Core.Bool.{Bool, true, false}
+use mathlib.Core.Bool.{true}
 use mathlib.Core.Logic.{◌⊎◌, inl, inr}
 use lib.ListN.{length}
-use lib.Dec.{ltb}
 use borrow.Author.Tests.{lt-ltb, le-ltb}
+use Rattle.std.specs.Prelude.{Ok, Err}
 use Rattle.table.specs.declared.ItemId.{ItemId}
 use Rattle.boxes.specs.Answer.{ok, check, ◌>>=◌, ◌>>◌}
 use Rattle.boxes.specs.Types.{image}
@@ -29,9 +29,7 @@ use Rattle.judging.proofs.SceneLaws.{scene_long}
 use Rattle.tracing.specs.inner.Told.{Shown, told_end, told_end_by}
 use Rattle.tracing.specs.declared.End.{End}
 use Rattle.tracing.specs.declared.End.TheVariants as end
-use Rattle.asked.specs.Told.{told_pictured}
-use Rattle.asked.specs.declared.Pictured.TheVariants as pictures
-use Rattle.asked.proofs.PicturedLaws.{picture-listed, pictured-refused, picture-image}
+use Rattle.asked.proofs.PicturedLaws.{picture-listed, picture-image}
 use Rattle.traced.specs.Told.{end_row, told_found, told_traced}
 use Rattle.traced.specs.declared.Traced.{Traced}
 use Rattle.traced.specs.declared.Traced.TheVariants as traced
@@ -48,14 +46,14 @@ traced-by i (end.Fill r p n) = traced.Fill i p.x p.y n
 
 pub end-told : (f : File) (x : Trace.Traced) (y : End) → y ≡ told_end x → (i : ItemId) →
     (end_row x.end ≡ row_of y → i.0 ≡ (item_at f (row_of y)).id) →
-    traced-by i y ≡ told_traced (ok (found_by f x.passed x.end))
+    Ok (traced-by i y) ≡ told_traced (ok (found_by f x.passed x.end))
 unfolding told_end_by told_traced told_found found_by
 end-told f x y e i q = subst (λ (y : End). (end_row x.end ≡ row_of y → i.0 ≡ (item_at f (row_of y)).id) →
-    traced-by i y ≡ told_traced (ok (found_by f x.passed x.end))) (sym e) (by x.end) q
+    Ok (traced-by i y) ≡ told_traced (ok (found_by f x.passed x.end))) (sym e) (by x.end) q
   where
     by : (z : Trace.End) → (end_row z ≡ row_of (told_end_by z x.passed) →
         i.0 ≡ (item_at f (row_of (told_end_by z x.passed))).id) →
-        traced-by i (told_end_by z x.passed) ≡ told_traced (ok (found_by f x.passed z))
+        Ok (traced-by i (told_end_by z x.passed)) ≡ told_traced (ok (found_by f x.passed z))
     by (Trace.pixel k a) q = rw (← q refl)
     by (Trace.fill k a) q = rw (← q refl)
 
@@ -63,10 +61,6 @@ end-told f x y e i q = subst (λ (y : End). (end_row x.end ≡ row_of y → i.0 
 module _ {t rows head : List ℕ} {total : ℕ} {f : File} (w : Shown t rows head total f) (id : ℕ) (p : Point) where
   abbrev s : Scene
   s = scene_of total head f
-
-  pub trace_off : (y : Refusal) → told_pictured (pictured f id) ≡ pictures.Refused y → traced.Refused y ≡ told_traced (trace_in s f id p)
-  unfolding trace_in ◌>>=◌ told_traced
-  trace_off y e = rw (pictured-refused (pictured f id) y e)
 
   module _ (r : ℕ) (is_row : pictured f id ≡ ok r) where
     pub trace-row : r < length f.items
@@ -81,15 +75,11 @@ module _ {t rows head : List ℕ} {total : ℕ} {f : File} (w : Shown t rows hea
       output-is = ez s w.sizes (rw (scene_long total head f) trace-row)
 
       -- 23
-      pub trace-outside : (z.wide ≤ p.x) ⊎ (z.high ≤ p.y) → (y : Refusal) → y.number ≡ 23 → y.place ≡ id →
-          traced.Refused y ≡ told_traced (trace_in s f id p)
+      pub trace-outside : (z.wide ≤ p.x) ⊎ ((p.x < z.wide) × (z.high ≤ p.y)) → (y : Refusal) → y.number ≡ 23 → y.place ≡ id →
+          Err y ≡ told_traced (trace_in s f id p)
       unfolding trace_in ◌>>=◌ ◌>>◌ check told_traced
       trace-outside (inl h) y n q = rw (is_row, ← output-is, le-ltb p.x z.wide h, ← n, ← q)
-      trace-outside (inr h) y n q = by (ltb p.x z.wide) refl
-        where
-          by : (b : Bool) → ltb p.x z.wide ≡ b → traced.Refused y ≡ told_traced (trace_in s f id p)
-          by true k = rw (is_row, ← output-is, k, le-ltb p.y z.high h, ← n, ← q)
-          by false k = rw (is_row, ← output-is, k, ← n, ← q)
+      trace-outside (inr h) y n q = rw (is_row, ← output-is, lt-ltb p.x z.wide h.0, le-ltb p.y z.high h.1, ← n, ← q)
 
       pub on-output : p.x < z.wide → p.y < z.high → Inside (output_of (picture_at s r)) p
       on-output h l = rw (← output-is) (record { in_x = h; in_y = l })

@@ -38,6 +38,7 @@ use Rattle.std.proofs.Common.{
   le-ltb,
   lt-ltb,
 }
+use Rattle.std.specs.Prelude.{Some}
 use Rattle.fields.specs.Choice.{pick}
 use Rattle.fields.specs.Field.{be_at}
 use Rattle.fields.proofs.FieldLaws.{pick_yes, pick_no}
@@ -49,7 +50,7 @@ use Rattle.contents.specs.Iinf.{Item}
 use Rattle.contents.specs.File.{File}
 use Rattle.pictures.specs.declared.Point.{Point}
 use Rattle.pictures.specs.Turn.{point}
-use Rattle.pictures.specs.declared.OverlayRead.TheVariants as layers
+use Rattle.pictures.specs.declared.Overlay as overlays
 use Rattle.pictures.specs.Recipe.{Recipe, Layers, Offset, Overlay, field_bytes, iovl_form}
 use Rattle.pictures.specs.Scene.{Scene, picture_at, output_of}
 use Rattle.pictures.specs.Trace.{blank, input, on_side, along_side, covers, layer_at, source_by, source_of}
@@ -225,9 +226,9 @@ module _ {t rows head : List ℕ} {total : ℕ} {f : File} (v : Shown t rows hea
 abbrev pub Body : List ℕ → ℕ → ℕ → Type 0
 Body b n w = ((w ≡ 2) ⊎ (w ≡ 4)) × (length b ≡ 10 + 2 * w + 2 * w * n) × (w ≡ field_bytes (be_at b 1 1))
 
-pub overlay_read : (b : List ℕ) (n w h k : ℕ) → layers.Is w h k ≡ told_overlay b (whole (iovl_form n) 0 b) → Body b n k
-overlay_read b n w h k e =
-    let o = told-overlay b _ w h k (sym e) in
+pub overlay_read : (b : List ℕ) (n : ℕ) (r : overlays.Overlay) → Some r ≡ told_overlay b (whole (iovl_form n) 0 b) → Body b n r.bytes
+overlay_read b n r e =
+    let o = told-overlay b _ r (sym e) in
     let x = overlay_bytes 0 b n o.overlay o.is in
     subst (Body b n) o.bytes (two_or_four (be_at b 1 1), x.0, refl)
 

@@ -1,6 +1,6 @@
 -- Where pixels come from, coordinate by coordinate, where the code's arithmetic wraps. Assumes nothing.
 --   Leads t s o    o says where the pixels come from that the transform t has moved
-use Rattle.std.proofs.Common.{◌≡◌, ℕ, ◌+◌, ◌-◌, ◌*◌, ◌/◌, ◌%◌, ◌^◌, ◌<◌, Bool, true, false, not, ap, ◌∙◌, arith}
+use Rattle.std.proofs.Common.{◌≡◌, ℕ, ◌+◌, ◌-◌, ◌*◌, ◌/◌, ◌%◌, ◌<◌, Bool, true, false, not, ap, ◌∙◌, arith}
 use mathlib.Core.Bool.{beq}
 use Rattle.fields.specs.Choice.{pick}
 use Rattle.pictures.specs.declared.Size.{Size}
@@ -11,15 +11,6 @@ use Rattle.pictures.specs.Turn.{size_after, back, Inside, Fits}
 use Rattle.tracing.specs.declared.Coordinate.{Coordinate}
 use Rattle.tracing.specs.declared.Origin.{Origin}
 use Rattle.tracing.specs.inner.Origins.{coordinate, origin, moved_by, of_point, coordinate_at, origin_at}
-
--- moved_by: as the code subtracts
-pub moved_back : (from by r : ℕ) → from < 4294967296 → by < 4294967296 → r < 4294967296 → (r + by) % 2 ^ 32 ≡ from → r ≡ moved_by from true by
-unfolding moved_by pick
-moved_back from by r f b l e = omega arith
-
-pub moved_on : (from by r : ℕ) → r ≡ (from + by) % 2 ^ 32 → r ≡ moved_by from false by
-unfolding moved_by pick
-moved_on from by r e = e
 
 -- two rests that differ by a multiple of 2^32
 same_rest : (x y a b : ℕ) → x % 4294967296 + 4294967296 * a ≡ y % 4294967296 + 4294967296 * b → x % 4294967296 ≡ y % 4294967296
@@ -111,10 +102,13 @@ kept_exact : (v : ℕ) → v < 4294967296 → moved_by 0 false v ≡ v
 unfolding moved_by pick
 kept_exact v h = omega arith
 
--- last is the last coordinate of a side
-back_exact : (side last v : ℕ) → (last + 1) % 2 ^ 32 ≡ side → side < 4294967296 → last < 4294967296 → v < side → moved_by last true v ≡ side - 1 - v
+-- the last coordinate of a side, as the code subtracts
+abbrev last : ℕ → ℕ
+last side = (side + 4294967295) % 4294967296
+
+back_exact : (side v : ℕ) → side < 4294967296 → v < side → moved_by (last side) true v ≡ side - 1 - v
 unfolding moved_by pick
-back_exact side last v e h k l = omega arith
+back_exact side v h l = omega arith
 
 origin_stays : (p : Point) → p.x < 4294967296 → p.y < 4294967296 → origin_at (origin (coordinate 0 false false) (coordinate 0 false true)) p ≡ p
 unfolding of_point pick
@@ -143,35 +137,32 @@ module _ (t : Turn) (s : Size) (w : s.wide < 4294967296) (h : s.high < 429496729
   pub leads_misfit : t ≡ Misfit → Leads t s o
   leads_misfit e p f i = absurd (rw e at f)
 
-  -- right is its last column, and bottom its last row
-  module _ (right bottom : ℕ) (er : (right + 1) % 2 ^ 32 ≡ s.wide) (eb : (bottom + 1) % 2 ^ 32 ≡ s.high)
-      (v : right < 4294967296) (k : bottom < 4294967296) where
-    pub leads-left : t ≡ Left → x ≡ coordinate right true true → y ≡ coordinate 0 false false → Leads t s o
-    unfolding back size_after of_point pick
-    leads-left e a b p f i =
-        let j = rw e at i in
-        rw (e, eo, a, b, back_exact s.wide right p.y er w v j.in_y, kept_exact p.x (omega (arith, j.in_x)))
+  pub leads-left : t ≡ Left → x ≡ coordinate (last s.wide) true true → y ≡ coordinate 0 false false → Leads t s o
+  unfolding back size_after of_point pick
+  leads-left e a b p f i =
+      let j = rw e at i in
+      rw (e, eo, a, b, back_exact s.wide p.y w j.in_y, kept_exact p.x (omega (arith, j.in_x)))
 
-    pub leads-half : t ≡ Half → x ≡ coordinate right true false → y ≡ coordinate bottom true true → Leads t s o
-    unfolding back size_after of_point pick
-    leads-half e a b p f i =
-        let j = rw e at i in
-        rw (e, eo, a, b, back_exact s.wide right p.x er w v j.in_x, back_exact s.high bottom p.y eb h k j.in_y)
+  pub leads-half : t ≡ Half → x ≡ coordinate (last s.wide) true false → y ≡ coordinate (last s.high) true true → Leads t s o
+  unfolding back size_after of_point pick
+  leads-half e a b p f i =
+      let j = rw e at i in
+      rw (e, eo, a, b, back_exact s.wide p.x w j.in_x, back_exact s.high p.y h j.in_y)
 
-    pub leads-right : t ≡ Right → x ≡ coordinate 0 false true → y ≡ coordinate bottom true false → Leads t s o
-    unfolding back size_after of_point pick
-    leads-right e a b p f i =
-        let j = rw e at i in
-        rw (e, eo, a, b, kept_exact p.y (omega (arith, j.in_y)), back_exact s.high bottom p.x eb h k j.in_x)
+  pub leads-right : t ≡ Right → x ≡ coordinate 0 false true → y ≡ coordinate (last s.high) true false → Leads t s o
+  unfolding back size_after of_point pick
+  leads-right e a b p f i =
+      let j = rw e at i in
+      rw (e, eo, a, b, kept_exact p.y (omega (arith, j.in_y)), back_exact s.high p.x h j.in_x)
 
-    pub leads_flip_x : t ≡ FlipX → x ≡ coordinate right true false → y ≡ coordinate 0 false true → Leads t s o
-    unfolding back size_after of_point pick
-    leads_flip_x e a b p f i =
-        let j = rw e at i in
-        rw (e, eo, a, b, back_exact s.wide right p.x er w v j.in_x, kept_exact p.y (omega (arith, j.in_y)))
+  pub leads_flip_x : t ≡ FlipX → x ≡ coordinate (last s.wide) true false → y ≡ coordinate 0 false true → Leads t s o
+  unfolding back size_after of_point pick
+  leads_flip_x e a b p f i =
+      let j = rw e at i in
+      rw (e, eo, a, b, back_exact s.wide p.x w j.in_x, kept_exact p.y (omega (arith, j.in_y)))
 
-    pub leads_flip_y : t ≡ FlipY → x ≡ coordinate 0 false false → y ≡ coordinate bottom true true → Leads t s o
-    unfolding back size_after of_point pick
-    leads_flip_y e a b p f i =
-        let j = rw e at i in
-        rw (e, eo, a, b, kept_exact p.x (omega (arith, j.in_x)), back_exact s.high bottom p.y eb h k j.in_y)
+  pub leads_flip_y : t ≡ FlipY → x ≡ coordinate 0 false false → y ≡ coordinate (last s.high) true true → Leads t s o
+  unfolding back size_after of_point pick
+  leads_flip_y e a b p f i =
+      let j = rw e at i in
+      rw (e, eo, a, b, kept_exact p.x (omega (arith, j.in_x)), back_exact s.high p.y h j.in_y)

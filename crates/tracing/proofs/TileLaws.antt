@@ -25,6 +25,7 @@ use Rattle.std.proofs.Common.{
   arith,
   eq-eqb,
 }
+use Rattle.std.specs.Prelude.{Option, Some, None}
 use Rattle.fields.specs.Choice.{pick}
 use Rattle.fields.proofs.FieldLaws.{pick_yes, pick_no}
 use Rattle.fields.proofs.TestLaws.{and_both}
@@ -37,8 +38,7 @@ use Rattle.contents.specs.Iinf.{Item}
 use Rattle.contents.specs.File.{File}
 use Rattle.pictures.specs.declared.Size.{Size}
 use Rattle.pictures.specs.declared.Point.{Point}
-use Rattle.pictures.specs.declared.GridRead.{GridRead}
-use Rattle.pictures.specs.declared.GridRead.TheVariants.{Is, Wrong}
+use Rattle.pictures.specs.declared.Grid as grids
 use Rattle.pictures.specs.Turn.{size, point, Inside}
 use Rattle.pictures.specs.inner.Told.{told_grid}
 use Rattle.pictures.specs.Recipe.{Recipe, Copy, Opaque, Tiles, Grid, grid_form}
@@ -120,7 +120,7 @@ module _ {t rows head : List ℕ} {total : ℕ} {f : File} (d : Shown t rows hea
         ∙ sym (ap (λ (x : Recipe). told_source (source_by s picture x p)) copied)
 
   -- `grid`: its body is read as x, if it can be read
-  module _ (q : (item_at f r).type ≡ grid) (x : GridRead)
+  module _ (q : (item_at f r).type ≡ grid) (x : Option grids.Grid)
       (told : Readable total head f (id_of f r) → x ≡ told_grid (grid_in (body_of total head f (id_of f r)))) where
     grid-told : (g : Grid) × (x ≡ told_grid (ok g)) × (picture.recipe ≡ Tiles g)
     grid-told =
@@ -128,12 +128,13 @@ module _ {t rows head : List ℕ} {total : ℕ} {f : File} (d : Shown t rows hea
         let y = tiles_by total head f (item_at f r) k.0 k.1 q in
         (y.2, told (λ j. (y.0, y.1)) ∙ ap told_grid (ok_bind _ (whole grid_form 0) y.0 y.1 ∙ y.3), k.2 ∙ y.4)
 
-    pub grid-there : x ≡ Wrong → ⊥
+    pub grid-there : x ≡ None → ⊥
     unfolding told_grid
-    grid-there w = let k = sym w ∙ grid-told.1 in let z : ◌≡◌ {A = ℕ} 0 1 = cc in absurd (omega arith)
+    grid-there w = let k = sym w ∙ grid-told.1 in cc
 
-    pub grid_tiles : (a c w h : ℕ) → x ≡ Is a c w h → picture.recipe ≡ Tiles (record { rows = a; columns = c; wide = w; high = h })
-    grid_tiles a c w h e = let y = grid-told in y.2 ∙ ap Tiles (ok_inj y.0 _ (told-grid (ok y.0) a c w h (sym y.1 ∙ e)))
+    pub grid_tiles : (a : grids.Grid) → x ≡ Some a →
+        picture.recipe ≡ Tiles (record { rows = a.rows; columns = a.columns; wide = a.wide; high = a.high })
+    grid_tiles a e = let y = grid-told in y.2 ∙ ap Tiles (ok_inj y.0 _ (told-grid (ok y.0) a (sym y.1 ∙ e)))
 
   -- tiles, p being a point of the picture
   module _ (g : Grid) (q : picture.recipe ≡ Tiles g) (p : Point) (i : Inside picture.declared p) where

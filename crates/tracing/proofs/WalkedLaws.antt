@@ -1,7 +1,7 @@
 -- Going over an item's transforms from the first to the last. Assumes nothing.
 --   Walked ts s p q o    the transforms ts are left, before which the picture has the size s; its pixels come from where o says; and
 --                        p, a pixel after them, comes from q
-use Rattle.std.proofs.Common.{◌≡◌, ℕ, ◌<◌, ◌≤◌, List, [], ◌∷◌, length, drop, ap, ◌∙◌, subst, arith, drop_of_length-le}
+use Rattle.std.proofs.Common.{◌≡◌, ℕ, ◌<◌, ◌≤◌, List, ◌∷◌, length, drop, ap, ◌∙◌, subst, arith, drop_of_length-le}
 use Rattle.pictures.specs.declared.Size.{Size}
 use Rattle.pictures.specs.declared.Point.{Point}
 use Rattle.pictures.specs.declared.Turn.{Turn}

@@ -23,7 +23,8 @@ ghost use Rattle.views.specs.inner.View.{TableOf, SizesAre, id_of};
 ghost use Rattle.tracing.specs.inner.Origins.{moved_by, coordinate, coordinate_at, origin, origin_at};
 ghost use Rattle.tracing.specs.inner.Told.{Shown, OffsetsIn, first_transform, told_source, told_end};
 
-use pictures::{GridRead, OverlayRead, Point, Size, Turn};
+use boxes::types::{GRID, IDEN, IOVL};
+use pictures::{Point, Size, Turn};
 use table::{ItemRow, Table};
 
 // The first of an item's associations from j on that names a transform; how many there are where none does. No table of a
@@ -41,19 +42,13 @@ fn next_transform(table: &[u32], row: ItemRow, j: usize) -> usize
     if 2048 < first + n {
         return j;
     }
-    let mut k = j;
-    while k < n {
-        let index = table[5136 + first + k] % 32768;
-        if 1 <= index {
-            if index <= 256 {
-                if declared::is_transform(table[4108 + 4 * (index as usize)]) {
-                    return k;
-                }
-            }
+    for k in j..n {
+        let index = (table[5136 + first + k] % 32768) as usize;
+        if 1 <= index && index <= 256 && declared::is_transform(table[4108 + 4 * index]) {
+            return k;
         }
-        k += 1;
     }
-    k
+    j.max(n)
 }
 
 // A coordinate of the point that a pixel comes from: the pixel's x, or its y where `tall`, on from a number, or back from it.
@@ -76,9 +71,9 @@ fn moved(from: u32, back: bool, by: u32) -> u32
     ensures { result ≡ moved_by from back by }
 {
     if back {
-        return std::num::wrapping_sub_u32(from, by);
+        return from.wrapping_sub(by);
     }
-    std::num::wrapping_add_u32(from, by)
+    from.wrapping_add(by)
 }
 
 fn coordinate_at(c: Coordinate, p: Point) -> u32
@@ -129,8 +124,8 @@ fn origin_by(x: Coordinate, y: Coordinate) -> Origin
 fn origin_of(t: Turn, s: Size) -> Origin
     ensures { (p : Point) → Fits t s → Inside (size_after t s) p → origin_at result p ≡ Turns.back t s p }
 {
-    let right = std::num::wrapping_sub_u32(s.wide, 1);
-    let bottom = std::num::wrapping_sub_u32(s.high, 1);
+    let right = s.wide.wrapping_sub(1);
+    let bottom = s.high.wrapping_sub(1);
     match t {
         Turn::Stay => origin_by(on_from(0, false), on_from(0, true)),
         Turn::Left => origin_by(back_from(right, true), on_from(0, false)),
@@ -195,6 +190,7 @@ fn undone_each(head: &[u8], table: &[u32], row: ItemRow, j: usize, s: Size, p: P
     let mut origin = origin_by(on_from(0, false), on_from(0, true));
     let mut size = s;
     let mut k = j;
+    // A while: each step goes to the next transform.
     while k < n {
         let kind = declared::kind_of(table, row, k);
         let b = views::content_of(declared::box_of(head, table, row, k));
@@ -257,10 +253,7 @@ fn tiled_at(table: &[u32], rows: &[u32], row: ItemRow, columns: u32, p: Point) -
     let tile = sizing::output_in(table, derived::input_of(table, rows, row, 0));
     let w = tile.wide;
     let h = tile.high;
-    if w == 0 {
-        return Source::Here;
-    }
-    if h == 0 {
+    if w == 0 || h == 0 {
         return Source::Here;
     }
     let x = p.x;
@@ -306,9 +299,7 @@ fn topmost_by(
 {
     let px = p.x as u64;
     let py = p.y as u64;
-    let mut k = n;
-    while 0 < k {
-        k -= 1;
+    for k in (0..n).rev() {
         let input = inputs[k] as usize;
         if input < 256 {
             let at = 2 * bytes * k;
@@ -354,18 +345,10 @@ fn layered_in(table: &[u32], inputs: &[u32], b: &[u8], n: usize, p: Point) -> So
         (o : Overlay) → whole (iovl_form n) 0 b.now ≡ ok o →
         result ≡ told_source (layer_at s o.offsets (take n inputs.now) p blank) }
 {
-    let o = pictures::read_overlay(b, n);
-    match o {
-        OverlayRead::Wrong => Source::Here,
-        OverlayRead::Is {
-            wide: _,
-            high: _,
-            bytes,
-        } => {
-            let at = 10 + 2 * bytes;
-            topmost(table, inputs, &b[at..], bytes, n, p)
-        }
-    }
+    let Some(o) = pictures::read_overlay(b, n) else {
+        return Source::Here;
+    };
+    topmost(table, inputs, &b[10 + 2 * o.bytes..], o.bytes, n, p)
 }
 
 // How many bytes of offsets are looked at at once where they do not lie in one piece: those of 64 inputs, or of 128.
@@ -419,6 +402,7 @@ fn topmost_joined(
 {
     let most = WINDOW / (2 * bytes);
     let mut end = n;
+    // A while: each step goes down by a window.
     while 0 < end {
         let from = if end < most { 0 } else { end - most };
         let s = topmost_between(head, table, rows, row, inputs, bytes, from, end, p);
@@ -449,21 +433,14 @@ fn layered_joined(
         whole (iovl_form n) 0 b ≡ ok o →
         result ≡ told_source (layer_at s o.offsets (take n inputs.now) p blank) }
 {
-    let o = derived::joined_overlay(head, table, rows, row, n);
-    match o {
-        OverlayRead::Wrong => Source::Here,
-        OverlayRead::Is {
-            wide: _,
-            high: _,
-            bytes,
-        } => {
-            // Two calls, so that the window is no part of what a trace keeps for each picture that it passes.
-            if bytes == 2 {
-                return topmost_joined(head, table, rows, row, inputs, 2, n, p);
-            }
-            topmost_joined(head, table, rows, row, inputs, 4, n, p)
-        }
+    let Some(o) = derived::joined_overlay(head, table, rows, row, n) else {
+        return Source::Here;
+    };
+    // Two calls, so that the window is no part of what a trace keeps for each picture that it passes.
+    if o.bytes == 2 {
+        return topmost_joined(head, table, rows, row, inputs, 2, n, p);
     }
+    topmost_joined(head, table, rows, row, inputs, 4, n, p)
 }
 
 // `iovl`.
@@ -472,10 +449,7 @@ fn layered_at(head: &[u8], table: &[u32], rows: &[u32], row: ItemRow, p: Point) 
         row.0 < length f.items → (item_at f row.0).type ≡ iovl →
         result ≡ told_source (source_of (scene_of total head.now f) row.0 p) }
 {
-    if table.len() < Table::WORDS {
-        return Source::Here;
-    }
-    if rows.len() < 2048 {
+    if table.len() < Table::WORDS || rows.len() < 2048 {
         return Source::Here;
     }
     let first = views::held_word(table, row, 5) as usize;
@@ -497,23 +471,11 @@ fn gridded_at(head: &[u8], table: &[u32], rows: &[u32], row: ItemRow, p: Point) 
         Inside (picture_at (scene_of total head.now f) row.0).declared p →
         result ≡ told_source (source_of (scene_of total head.now f) row.0 p) }
 {
-    let g = derived::grid_of(head, table, rows, row);
-    match g {
-        GridRead::Wrong => Source::Here,
-        GridRead::Is {
-            rows: _,
-            columns,
-            wide: _,
-            high: _,
-        } => tiled_at(table, rows, row, columns, p),
-    }
+    let Some(g) = derived::grid_of(head, table, rows, row) else {
+        return Source::Here;
+    };
+    tiled_at(table, rows, row, g.columns, p)
 }
-
-const IDEN: u32 = 0x6964656e;
-
-const GRID: u32 = 0x67726964;
-
-const IOVL: u32 = 0x696f766c;
 
 // What lies beneath the point p of the reconstructed picture in a row.
 pub fn source_of(head: &[u8], table: &[u32], rows: &[u32], row: ItemRow, p: Point) -> Source

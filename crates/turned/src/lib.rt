@@ -11,7 +11,7 @@ ghost use Rattle.views.specs.inner.View.{TableOf, id_of};
 ghost use Rattle.layout.specs.inner.Pose.{composed_of};
 ghost use Rattle.turned.specs.inner.Turns.{done_by, posed, margins_through, part_between, part_back};
 
-use layout::{Margins, Part, Pose, least, most};
+use layout::{Margins, Part, Pose};
 use pictures::{Point, Size, Turn};
 use table::ItemRow;
 
@@ -37,12 +37,10 @@ pub fn pose_within(head: &[u8], table: &[u32], row: ItemRow, s: Size, outer: Pos
     let n = declared::property_count(table, row);
     let mut size = s;
     let mut pose = Pose(0);
-    let mut j: usize = 0;
-    while j < n {
+    for j in 0..n {
         let t = turn_at(head, table, row, j, size);
         pose = layout::composed(layout::pose_of(t), pose);
         size = pictures::size_after(t, size);
-        j += 1;
     }
     layout::composed(outer, pose)
 }
@@ -57,12 +55,10 @@ pub fn margins_through(head: &[u8], table: &[u32], row: ItemRow, s: Size, m: Mar
     let n = declared::property_count(table, row);
     let mut size = s;
     let mut margins = m;
-    let mut j: usize = 0;
-    while j < n {
+    for j in 0..n {
         let t = turn_at(head, table, row, j, size);
         margins = layout::margins_after(t, size, margins);
         size = pictures::size_after(t, size);
-        j += 1;
     }
     margins
 }
@@ -72,10 +68,10 @@ fn part_between(a: Point, b: Point) -> Part
     ensures { result ≡ part_between a b }
 {
     Part {
-        left: least(a.x as u64, b.x as u64) as u32,
-        top: least(a.y as u64, b.y as u64) as u32,
-        right: most(a.x as u64, b.x as u64) as u32,
-        bottom: most(a.y as u64, b.y as u64) as u32,
+        left: a.x.min(b.x),
+        top: a.y.min(b.y),
+        right: a.x.max(b.x),
+        bottom: a.y.max(b.y),
     }
 }
 

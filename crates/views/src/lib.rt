@@ -13,7 +13,7 @@ ghost use Rattle.views.specs.inner.View.{TableOf, record_word, id_of};
 ghost use Rattle.views.specs.inner.Told.{told_row};
 ghost use Rattle.views.specs.Lies.{LiesAt};
 
-use records::FoundRow;
+use boxes::types::{GRID, HVC1, IDEN, IOVL, JPEG};
 use table::{ItemId, ItemRow, PropertyIndex, Table};
 
 // How many items there are.
@@ -31,15 +31,15 @@ pub fn row_at(_table: &[u32], place: usize) -> ItemRow
 }
 
 // The row of an ID, looked for from a row on that the caller hopes for, without keys.
-pub fn row_named(table: &[u32], id: ItemId, hope: ItemRow) -> FoundRow
+pub fn row_named(table: &[u32], id: ItemId, hope: ItemRow) -> Option<ItemRow>
     ensures { (head : List ℕ) (pl : Places) (f : File) → TableOf table.now head pl f → result ≡ told_row id.0 f.items }
 {
     if table.len() < Table::WORDS {
-        return FoundRow::Nothing;
+        return None;
     }
     let n = item_count(table);
     if 256 < n {
-        return FoundRow::Nothing;
+        return None;
     }
     records::row_unkeyed(table, n, id, hope)
 }
@@ -87,10 +87,8 @@ pub fn association_of(table: &[u32], row: ItemRow, j: usize) -> u32
         result ≡ association_word (get_or (associations_of f (id_of f row.0)) j no_association) }
 {
     let first = record_word(table, row, 3) as usize;
-    if first < 2048 {
-        if j < 2048 {
-            return table::word(table, 5136 + (first + j));
-        }
+    if first < 2048 && j < 2048 {
+        return table::word(table, 5136 + (first + j));
     }
     0
 }
@@ -102,10 +100,8 @@ pub fn target_of(table: &[u32], row: ItemRow, j: usize) -> ItemId
         result.0 ≡ get_or (targets_of f (id_of f row.0)) j 0 }
 {
     let first = record_word(table, row, 5) as usize;
-    if first < 2048 {
-        if j < 2048 {
-            return ItemId(table::word(table, 7184 + (first + j)));
-        }
+    if first < 2048 && j < 2048 {
+        return ItemId(table::word(table, 7184 + (first + j)));
     }
     ItemId(0)
 }
@@ -133,15 +129,12 @@ pub fn extent_of(table: &[u32], row: ItemRow, j: usize) -> Extent
         (get_or (location_of f (id_of f row.0)).extents j no_extent))) }
 {
     let first = record_word(table, row, 7) as usize;
-    if j < 512 {
-        let e = first + j;
-        if e < 512 {
-            let k = 9232 + 4 * e;
-            return Extent {
-                offset: wide(table, k),
-                size: wide(table, k + 2),
-            };
-        }
+    if j < 512 && first + j < 512 {
+        let k = 9232 + 4 * (first + j);
+        return Extent {
+            offset: wide(table, k),
+            size: wide(table, k + 2),
+        };
     }
     Extent { offset: 0, size: 0 }
 }
@@ -174,11 +167,8 @@ pub fn part(s: &[u8], at: usize, n: usize) -> &[u8]
     ensures result_value_2 { length s.now < at + n → result.now ≡ [] }
     ensures lies_at { at + n ≤ length s.now → LiesAt s.entry.ref_ptr at result.ref_ptr }
 {
-    if at <= s.len() {
-        if n <= s.len() - at {
-            let end = at + n;
-            return &s[at..end];
-        }
+    if at <= s.len() && n <= s.len() - at {
+        return &s[at..at + n];
     }
     &s[..0]
 }
@@ -194,10 +184,7 @@ pub fn property_box<'a>(head: &'a [u8], table: &[u32], index: PropertyIndex) -> 
         LiesAt head.entry.ref_ptr (property_offset (places_in total head.now) f index.0) result.ref_ptr }
 {
     let k = index.0;
-    if k == 0 {
-        return &head[..0];
-    }
-    if 256 < k {
+    if k == 0 || 256 < k {
         return &head[..0];
     }
     let w = 4112 + 4 * ((k - 1) as usize);
@@ -224,42 +211,20 @@ pub fn content_of(b: &[u8]) -> &[u8]
     &b[8..]
 }
 
-const HVC1: u32 = 0x68766331;
-
-const JPEG: u32 = 0x6a706567;
-
-const IDEN: u32 = 0x6964656e;
-
-const GRID: u32 = 0x67726964;
-
-const IOVL: u32 = 0x696f766c;
-
 pub fn is_coded(kind: u32) -> bool
     ensures { result ≡ coded kind }
 {
-    if kind == HVC1 {
-        return true;
-    }
-    kind == JPEG
+    matches!(kind, HVC1 | JPEG)
 }
 
 pub fn is_derived(kind: u32) -> bool
     ensures { result ≡ derived kind }
 {
-    if kind == IDEN {
-        return true;
-    }
-    if kind == GRID {
-        return true;
-    }
-    kind == IOVL
+    matches!(kind, IDEN | GRID | IOVL)
 }
 
 pub fn is_image(kind: u32) -> bool
     ensures { result ≡ image kind }
 {
-    if is_coded(kind) {
-        return true;
-    }
-    is_derived(kind)
+    is_coded(kind) || is_derived(kind)
 }

@@ -27,15 +27,7 @@ pub enum PlaceKind {
 fn is_among(number: u32, list: &[u32]) -> bool
     ensures { result ≡ member number list.now }
 {
-    let n = list.len();
-    let mut i: usize = 0;
-    while i < n {
-        if number == list[i] {
-            return true;
-        }
-        i += 1;
-    }
-    false
+    list.contains(&number)
 }
 
 pub fn place_kind(number: u32) -> PlaceKind
@@ -67,25 +59,13 @@ pub fn print_words(fd: i32, number: u32) {
 fn is_printable(b: u8) -> bool
     ensures { result ≡ printable b }
 {
-    if b < 32 {
-        return false;
-    }
-    b < 127
+    32 <= b && b < 127
 }
 
 fn is_text(a: u8, b: u8, c: u8, d: u8) -> bool
     ensures { result ≡ text a b c d }
 {
-    if !is_printable(a) {
-        return false;
-    }
-    if !is_printable(b) {
-        return false;
-    }
-    if !is_printable(c) {
-        return false;
-    }
-    is_printable(d)
+    is_printable(a) && is_printable(b) && is_printable(c) && is_printable(d)
 }
 
 // The last byte of a number.

@@ -14,10 +14,7 @@ pub fn print_first_step(fd: i32, orientation: u32) {
 }
 
 pub fn has_second_step(orientation: u32) -> bool {
-    if orientation == 5 {
-        return true;
-    }
-    orientation == 7
+    matches!(orientation, 5 | 7)
 }
 
 pub fn print_second_step(fd: i32, orientation: u32) {

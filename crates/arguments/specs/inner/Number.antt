@@ -2,11 +2,9 @@
 --   digit_of b      the digit that a byte of ASCII shows; 10 where it shows none
 --   digits s n     whether the first n bytes of s all show a digit
 --   value s n      the number that the digits of the first n bytes of s spell
---   number_of s     the number that s spells; Bad where s is empty, a byte shows no digit, or 32 bits do not hold it
-use Rattle.std.specs.Prelude.{ℕ, zero, suc, ◌+◌, ◌*◌, ◌-◌, List, Bool, true, ◌&&◌, length, get_or, eqb, ltb}
+--   number_of s     the number that s spells; None where s is empty, a byte shows no digit, or 32 bits do not hold it
+use Rattle.std.specs.Prelude.{ℕ, zero, suc, ◌+◌, ◌*◌, ◌-◌, List, Bool, true, ◌&&◌, Option, Some, None, length, get_or, eqb, ltb}
 use Rattle.fields.specs.Choice.{pick}
-use Rattle.arguments.specs.declared.Number.{Number}
-use Rattle.arguments.specs.declared.Number.TheVariants.{Is, Bad}
 
 unfoldable pub digit_of : ℕ → ℕ
 digit_of b = pick (ltb b 48) 10 (pick (ltb 57 b) 10 (b - 48))
@@ -19,7 +17,7 @@ unfoldable pub value : List ℕ → ℕ → ℕ
 value s zero = 0
 value s (suc n) = value s n * 10 + digit_of (get_or s n 0)
 
-unfoldable pub number_of : List ℕ → Number
+unfoldable pub number_of : List ℕ → Option ℕ
 number_of s =
-    pick (eqb (length s) 0) Bad
-    (pick (digits s (length s)) (pick (ltb (value s (length s)) 4294967296) (Is (value s (length s))) Bad) Bad)
+    pick (eqb (length s) 0) None
+    (pick (digits s (length s)) (pick (ltb (value s (length s)) 4294967296) (Some (value s (length s))) None) None)

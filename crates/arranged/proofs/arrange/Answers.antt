@@ -6,9 +6,6 @@ use Rattle.arranged.proofs.arrange.Goals as goal
 pub returns-then-table-lt-WORDS : goal.returns-then-table-lt-WORDS
 returns-then-table-lt-WORDS c = λ total head before e o. too_short total head before _ e c.if-table-lt-WORDS.true
 
-pub overflow_cast-n : goal.overflow_cast-n
-overflow_cast-n c = omega (arith, c.type_inv.table 0)
-
 pub returns-then-n-gt256 : goal.returns-then-n-gt256
 returns-then-n-gt256 c = λ total head before e o. too_many total head before _ e (omega arith) c.if-n-gt256.true
 

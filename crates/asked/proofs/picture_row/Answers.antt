@@ -1,28 +1,40 @@
 -- `asked::picture_row` meets its contract. Assumes nothing.
 use native.Mathlib.Omega.{arith}
 use mathlib.Core.Path.{sym, ap, ◌∙◌}
+use Rattle.std.proofs.lemmas.Result.{err_from_is_err_and}
+use Rattle.boxes.specs.Answer.{◌>>=◌}
 use Rattle.boxes.specs.Types.{image}
-use Rattle.asked.proofs.PicturedLaws.{found-row, picture-none, picture-at, picture-opaque}
+use Rattle.boxes.specs.Told.{told}
+use Rattle.boxes.proofs.ToldLaws.{told-refused}
+use Rattle.rules.specs.Opening.{pictured}
+use Rattle.asked.specs.inner.Told.{row_at}
+use Rattle.asked.proofs.PicturedLaws.{row_told, listed_row, picture_at, picture_opaque}
 use Rattle.asked.proofs.picture_row.Goals as goal
 
+pub returns-in_err-row : goal.returns-in_err-row
+unfolding told pictured ◌>>=◌
+returns-in_err-row c =
+    let p = err_from_is_err_and c.from_residual.result c.from_residual.ensures.1 in
+    λ head pl f v. rw (p.1, p.2, told-refused row_at _ _ (sym (c.in_err-row.ensures head pl f v)))
+
 pub returns-then-is_image : goal.returns-then-is_image
+unfolding told
 returns-then-is_image c =
     λ head pl f v.
-    let e = c.row_named-found.ensures head pl f v in
-    let l = found-row f _ _ e _ c.in-At.is in
-    picture-at f _ _ e _ c.in-At.is (sym (c.is_image.ensures ∙
-    ap image (c.type_of.ensures (omega (arith, l, v.bounded.few-items)) ∙ v.type _ l)) ∙ c.if-is_image.true)
+    let e = row_told _ _ (c.in_ok-row.ensures head pl f v) in
+    let l = listed_row f _ _ e in
+    rw (picture_at f _ _ e (sym (c.is_image.ensures ∙
+    ap image (c.type_of.ensures (omega (arith, l, v.bounded.few-items)) ∙ v.type _ l)) ∙ c.if-is_image.true))
 
-pub returns-in-Nothing : goal.returns-in-Nothing
-returns-in-Nothing c =
-    λ head pl f v. picture-none f _ _ (c.row_named-found.ensures head pl f v)
-    c.in-Nothing.is _ c.refusal.ensures.0 c.refusal.ensures.1
-
-pub returns-else-is_image : goal.returns-else-is_image
-returns-else-is_image c =
+pub returns : goal.returns
+unfolding told
+returns c =
     λ head pl f v.
-    let e = c.row_named-found.ensures head pl f v in
-    let l = found-row f _ _ e _ c.in-At.is in
-    picture-opaque f _ _ e _ c.in-At.is (sym (c.is_image.ensures ∙
-    ap image (c.type_of.ensures (omega (arith, l, v.bounded.few-items)) ∙ v.type _ l)) ∙ c.if-is_image.false)
-    _ c.refusal-in-At.ensures.0 c.refusal-in-At.ensures.1
+    let e = row_told _ _ (c.in_ok-row.ensures head pl f v) in
+    let l = listed_row f _ _ e in
+    rw (
+      picture_opaque f _ _ e (sym (c.is_image.ensures ∙
+          ap image (c.type_of.ensures (omega (arith, l, v.bounded.few-items)) ∙ v.type _ l)) ∙ c.if-is_image.false),
+      ← c.refusal.ensures.0,
+      ← c.refusal.ensures.1,
+    )

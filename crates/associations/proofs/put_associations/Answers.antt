@@ -1,5 +1,5 @@
 -- `associations::put_associations` meets its contract. Assumes nothing.
-use Rattle.associations.proofs.AssociationLaws.{mark_small, list_begin, list_length, list-kept, list_done, list-short, list_far, list-none, list-more}
+use Rattle.associations.proofs.AssociationLaws.{mark_small, list_begin, list-kept, list_done, list-short, list_far, list-more}
 use native.Mathlib.Omega.{arith}
 use Rattle.associations.proofs.put_associations.Goals as goal
 
@@ -7,16 +7,6 @@ pub loop-j-init : goal.loop-j-init
 loop-j-init c =
     let a = c.args in
     list_begin a.s.now a.from a.w a.k a.place a.most a.used a.table.now c.requires.0
-
-pub overflow_sub-s : goal.overflow_sub-s
-overflow_sub-s c = omega (arith, c.loop-j.invariant.here)
-
-pub shape_of-table-then-s-at : goal.shape_of-table-then-s-at
-shape_of-table-then-s-at c =
-    let a = c.args in
-    let l = c.loop-j in
-    list_length a.s.now a.from a.w a.k a.place a.most a.used a.table.now l.table l.at
-    l.j l.invariant
 
 pub returns-then-s-at : goal.returns-then-s-at
 returns-then-s-at c =
@@ -28,21 +18,10 @@ returns-then-s-at c =
           l.j l.invariant c.requires.2,
     )
 
-pub word_at-a-requires : goal.word_at-a-requires
-word_at-a-requires c =
-    (omega (arith, c.loop-j.invariant.here, c.if-s-at.false), c.requires.1)
-
 pub nonzero_rem-a : goal.nonzero_rem-a
 nonzero_rem-a c =
     let m = mark_small c.args.w c.requires.1 in
     omega arith
-
-pub shape_of-table-then-most-a : goal.shape_of-table-then-most-a
-shape_of-table-then-most-a c =
-    let a = c.args in
-    let l = c.loop-j in
-    list_length a.s.now a.from a.w a.k a.place a.most a.used a.table.now l.table l.at
-    l.j l.invariant
 
 pub returns-then-most-a : goal.returns-then-most-a
 returns-then-most-a c =
@@ -50,48 +29,15 @@ returns-then-most-a c =
     let l = c.loop-j in (
       list_far a.s.now a.from a.w a.k a.place a.most a.used a.table.now l.table l.at
           l.j l.invariant c.loop-j-test.true c.if-s-at.false c.word_at-a.result c.mark_of-mark.result
-          c.word_at-a.ensures c.mark_of-mark.ensures c.if-most-a.true,
+          c.word_at-a.ensures c.mark_of-mark.ensures c.then-most-a.either,
       list-kept a.s.now a.from a.w a.k a.place a.most a.used a.table.now l.table l.at
           l.j l.invariant c.requires.2,
-    )
-
-pub shape_of-table-then-a-mark : goal.shape_of-table-then-a-mark
-shape_of-table-then-a-mark c =
-    let a = c.args in
-    let l = c.loop-j in
-    list_length a.s.now a.from a.w a.k a.place a.most a.used a.table.now l.table l.at
-    l.j l.invariant
-
-pub returns-then-a-mark : goal.returns-then-a-mark
-returns-then-a-mark c =
-    let a = c.args in
-    let l = c.loop-j in (
-      list-none a.s.now a.from a.w a.k a.place a.most a.used a.table.now l.table l.at
-          l.j l.invariant c.loop-j-test.true c.if-s-at.false c.word_at-a.result c.mark_of-mark.result
-          c.word_at-a.ensures c.mark_of-mark.ensures c.if-a-mark.true,
-      list-kept a.s.now a.from a.w a.k
-          a.place a.most a.used a.table.now l.table l.at l.j l.invariant c.requires.2,
     )
 
 pub association_of-requires : goal.association_of-requires
 association_of-requires c =
     let m = mark_small c.args.w c.requires.1 in
     (omega arith, omega arith)
-
-pub bounds-table-used : goal.bounds-table-used
-bounds-table-used c =
-    let a = c.args in
-    let l = c.loop-j in
-    let e = list_length a.s.now a.from a.w a.k a.place a.most a.used a.table.now l.table
-    l.at l.j l.invariant in
-    omega arith
-
-pub overflow_add-at : goal.overflow_add-at
-overflow_add-at c =
-    omega (arith, c.loop-j.invariant.here, c.if-s-at.false)
-
-pub loop-j-smaller : goal.loop-j-smaller
-loop-j-smaller c = omega arith
 
 pub loop-j-preserved : goal.loop-j-preserved
 loop-j-preserved c =
@@ -101,13 +47,6 @@ loop-j-preserved c =
     l.j l.invariant c.loop-j-test.true c.if-s-at.false c.word_at-a.result c.mark_of-mark.result
     c.word_at-a.ensures c.mark_of-mark.ensures c.type_inv.s c.requires.1 c.if-most-a.false
     c.if-a-mark.false _ c.association_of.ensures
-
-pub shape_of-table : goal.shape_of-table
-shape_of-table c =
-    let a = c.args in
-    let l = c.loop-j in
-    list_length a.s.now a.from a.w a.k a.place a.most a.used a.table.now l.table l.at
-    l.j l.invariant
 
 pub returns : goal.returns
 returns c =

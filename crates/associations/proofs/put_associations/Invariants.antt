@@ -1,10 +1,6 @@
 -- `associations::put_associations` meets its contract. Assumes nothing.
-use Prim.Native.Nat.{◌-◌}
 use Rattle.associations.proofs.AssociationLaws.{ListSo}
 use Rattle.associations.proofs.put_associations.Given as goal
 
 abbrev pub invariant-loop-j : goal.invariant-loop-j
 invariant-loop-j l = ListSo l.s l.from l.w l.k l.place l.most l.used l.initial.table l.table l.at l.j
-
-abbrev pub decreases-loop-j : goal.decreases-loop-j
-decreases-loop-j l = l.k - l.j

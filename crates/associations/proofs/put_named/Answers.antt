@@ -1,5 +1,5 @@
 -- `associations::put_named` meets its contract. Assumes nothing.
-use Rattle.records.proofs.IdLaws.{found-row}
+use Rattle.std.proofs.lemmas.Result.{err_from_is_err_and}
 use Rattle.associations.proofs.EntryLaws.{entry_short, entry_low, entry_unlisted, entry_refused, entry_put, id-width}
 use native.Mathlib.Omega.{arith}
 use Rattle.associations.proofs.put_named.Goals as goal
@@ -22,33 +22,26 @@ returns-then-id-above c =
     a.s.now a.at a.above a.used c.id_bytes-w.result c.id_bytes-w.ensures c.requires.0 before
     total last c.if-s-at.false c.be_id-id.result c.be_id-id.ensures c.if-id-above.true
 
-pub put_list-p-requires : goal.put_list-p-requires
-put_list-p-requires c =
-    let p = c.requires in
-    let f = found-row c.args.table.now c.args.n c.be_id-id.result _ _ c.row_in_turn-found.ensures
-    c.in-At.is in
-    (omega (arith, p.0, c.if-s-at.false), p.1, omega arith, p.3, p.4)
-
-pub returns-in-Nothing : goal.returns-in-Nothing
-returns-in-Nothing c =
+pub returns-in_default : goal.returns-in_default
+returns-in_default c =
     let a = c.args in
     λ before total last. entry_unlisted a.table.now a.n a.f.most a.f.version a.f.word a.place
     a.s.now a.at a.above a.used c.id_bytes-w.result c.id_bytes-w.ensures c.requires.0 before
-    total last c.if-s-at.false c.be_id-id.result c.be_id-id.ensures c.if-id-above.false _ c.row_in_turn-found.ensures
-    c.in-Nothing.is
+    total last c.if-s-at.false c.be_id-id.result c.be_id-id.ensures c.if-id-above.false c.in_default.ensures
 
-pub returns-in-Refused : goal.returns-in-Refused
-returns-in-Refused c =
+pub returns-in_err-p : goal.returns-in_err-p
+returns-in_err-p c =
     let a = c.args in
-    λ before total last. entry_refused a.table.now a.n a.f.most a.f.version a.f.word a.place
+    let p = err_from_is_err_and c.from_residual.result c.from_residual.ensures.1 in
+    λ before total last. rw (p.1, p.2) (entry_refused a.table.now a.n a.f.most a.f.version a.f.word a.place
     a.s.now a.at a.above a.used c.id_bytes-w.result c.id_bytes-w.ensures c.requires.0 before
-    total last c.if-s-at.false c.be_id-id.result c.be_id-id.ensures c.if-id-above.false _ _
-    c.row_in_turn-found.ensures c.in-At.is _ _ c.put_list-p.ensures _ c.in-Refused.is
+    total last c.if-s-at.false c.be_id-id.result c.be_id-id.ensures c.if-id-above.false _
+    c.in-Some.ensures _ _ c.in_err-p.ensures)
 
-pub returns-in-Is : goal.returns-in-Is
-returns-in-Is c =
+pub returns : goal.returns
+returns c =
     let a = c.args in
     λ before total last. entry_put a.table.now a.n a.f.most a.f.version a.f.word a.place
     a.s.now a.at a.above a.used c.id_bytes-w.result c.id_bytes-w.ensures c.requires.0 before
-    total last c.if-s-at.false c.be_id-id.result c.be_id-id.ensures c.if-id-above.false _ _
-    c.row_in_turn-found.ensures c.in-At.is _ _ c.put_list-p.ensures _ _ c.in-Is.is
+    total last c.if-s-at.false c.be_id-id.result c.be_id-id.ensures c.if-id-above.false _
+    c.in-Some.ensures _ _ c.in_ok-p.ensures

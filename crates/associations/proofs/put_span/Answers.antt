@@ -1,11 +1,6 @@
 -- `associations::put_span` meets its contract. Assumes nothing.
 use Rattle.associations.proofs.KeepLaws.{two_stores}
-use lib.ListN.{length-set}
-use native.Mathlib.Omega.{arith}
 use Rattle.associations.proofs.put_span.Goals as goal
-
-pub bounds-table-a-2 : goal.bounds-table-a-2
-bounds-table-a-2 c = simp length-set (omega arith)
 
 pub returns : goal.returns
 returns c =

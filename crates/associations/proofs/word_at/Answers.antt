@@ -14,7 +14,7 @@ be8-requires c =
     let e = word_left c.args.w c.requires.1 c.if-w-eq2.false in
     omega arith
 
-pub returns : goal.returns
-returns c =
+pub returns-else-w-eq2 : goal.returns-else-w-eq2
+returns-else-w-eq2 c =
     let a = c.args in
     c.be8.ensures ∙ ap (be_at a.s.now a.at) (sym (word_left a.w c.requires.1 c.if-w-eq2.false))

@@ -1,22 +1,14 @@
 -- What reading an `ipma` answers and leaves.
---   told_names       the code's value for each answer
 --   KeptIds t u     u is as long as t, the same past 11,280, and has the same IDs
 --   NamesLeft       the table afterwards, where a file is read into it
 use Rattle.std.specs.Prelude.{ℕ, ◌≤◌, ◌≡◌, List, [], ◌++◌}
-use Rattle.boxes.specs.Answer.{Answer, ok, refuse}
-use Rattle.contents.specs.Ipma.{IpmaEntry, associations_in}
+use Rattle.boxes.specs.Answer.{Answer, ok}
+use Rattle.contents.specs.Ipma.{IpmaEntry}
 use Rattle.contents.specs.File.{File}
 use Rattle.rules.specs.Places.{Places}
 use Rattle.records.specs.inner.Raw.{raw_of}
 use Rattle.records.specs.inner.Rows.{ids_in}
 use Rattle.records.specs.inner.Stage.{Kept, Ready, with_names}
-use Rattle.associations.specs.declared.NamesRead.{NamesRead}
-use Rattle.associations.specs.declared.NamesRead.TheVariants as names
-
--- the answers
-unfoldable pub told_names : Answer (List IpmaEntry) → NamesRead
-told_names (ok ns) = names.Associations (associations_in ns)
-told_names (refuse n p) = names.Refused (record { number = n; place = p })
 
 -- the table afterwards
 pub record KeptIds (t u : List ℕ) : Type 0 where

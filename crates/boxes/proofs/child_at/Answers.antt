@@ -3,6 +3,7 @@ use Rattle.boxes.proofs.HeaderLaws.{says-short, child_whole, child_wrong, child_
 use mathlib.Core.Path.{sym, ◌∙◌}
 use native.Mathlib.Omega.{arith}
 use Rattle.boxes.proofs.child_at.Goals as goal
+use Rattle.boxes.proofs.child_at.Goals.{then-size-lt8-via-then-size-lt8, then-size-lt8-via-else-size-lt8+then-left-size}
 
 pub returns-then-s-at : goal.returns-then-s-at
 returns-then-s-at c =
@@ -23,13 +24,10 @@ pub returns-then-size-lt8 : goal.returns-then-size-lt8
 returns-then-size-lt8 c =
     let a = c.args in
     child_wrong a.s.now a.at _ _ _ (says-short a.s.now a.at _ _ c.be32-kind.ensures c.be32-size.ensures
-    c.if-size-eq1.false c.if-left-lt8.false) (λ p q. absurd (omega (arith, c.if-size-lt8.true)))
-
-pub returns-then-left-size : goal.returns-then-left-size
-returns-then-left-size c =
-    let a = c.args in
-    child_wrong a.s.now a.at _ _ _ (says-short a.s.now a.at _ _ c.be32-kind.ensures c.be32-size.ensures
-    c.if-size-eq1.false c.if-left-lt8.false) (λ p q. absurd (omega (arith, c.if-left-size.true)))
+    c.if-size-eq1.false c.if-left-lt8.false) (λ i j. elim c.then-size-lt8.branch [
+      | then-size-lt8-via-then-size-lt8 w ↦ absurd (omega (arith, w.if-size-lt8.true))
+      | then-size-lt8-via-else-size-lt8+then-left-size w ↦ absurd (omega (arith, w.if-left-size.true))
+    ])
 
 pub returns : goal.returns
 returns c =

@@ -2,7 +2,6 @@
 use Rattle.boxes.proofs.BrandLaws.{word_hit, word_miss, word_end}
 use Rattle.boxes.specs.Types.{mif1}
 use mathlib.Core.Path.{sym, ◌∙◌, refl}
-use native.Mathlib.Omega.{arith}
 use Rattle.boxes.proofs.has_brand.Goals as goal
 
 pub loop-i-init : goal.loop-i-init
@@ -13,9 +12,6 @@ returns-then-be32-eq-MIF1 c =
     let a = c.args in
     word_hit mif1 a.content.now c.loop-i.i c.loop-i-test.true
     (sym c.be32.ensures ∙ c.if-be32-eq-MIF1.true) ∙ sym c.loop-i.invariant
-
-pub loop-i-smaller : goal.loop-i-smaller
-loop-i-smaller c = omega arith
 
 pub loop-i-preserved : goal.loop-i-preserved
 loop-i-preserved c =

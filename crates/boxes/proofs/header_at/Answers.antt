@@ -4,16 +4,12 @@ use mathlib.Core.Path.{sym, ◌∙◌}
 use Rattle.boxes.proofs.HeaderLaws.{header-none, header-half, header-short, header-long}
 use Rattle.boxes.proofs.header_at.Goals as goal
 
-pub returns-then-s-at : goal.returns-then-s-at
-returns-then-s-at c =
+pub returns-then-left-lt8 : goal.returns-then-left-lt8
+returns-then-left-lt8 c =
     header-none c.args.s.now c.args.at (omega arith)
 
-pub returns-then-s-at-lt8 : goal.returns-then-s-at-lt8
-returns-then-s-at-lt8 c =
-    header-none c.args.s.now c.args.at (omega arith)
-
-pub returns-then-s-at-lt16 : goal.returns-then-s-at-lt16
-returns-then-s-at-lt16 c =
+pub returns-then-left-lt16 : goal.returns-then-left-lt16
+returns-then-left-lt16 c =
     header-half c.args.s.now c.args.at (sym c.be32-size.ensures ∙ c.if-size-eq1.true) (omega arith)
 
 pub returns-then-size-eq1 : goal.returns-then-size-eq1
@@ -25,5 +21,5 @@ returns-then-size-eq1 c =
 pub returns : goal.returns
 returns c =
     let a = c.args in
-    rw (c.be32-kind.ensures, c.be32-size.ensures) (header-short a.s.now a.at
+    rw (c.from.ensures, c.be32-kind.ensures, c.be32-size.ensures) (header-short a.s.now a.at
     (λ q. c.if-size-eq1.false (c.be32-size.ensures ∙ q)) (omega arith))

@@ -14,17 +14,15 @@ pub returns-then-old-ne0 : goal.returns-then-old-ne0
 returns-then-old-ne0 c =
     let a = c.args in
     let l = c.loop-kind in
-    let w = twice a.s.now a.place a.base l.spots l.at l.invariant _ _ _
-    (sym c.child_at-c.ensures ∙ c.in-Whole.is) _ c.family_place-j.ensures _ c.if-j-lt7.true
-    c.if-old-ne0.true in
-    (c.refused_family.ensures.0 ∙ w.0, c.refused_family.ensures.1 ∙ w.1)
+    rw c.refused.ensures (twice a.s.now a.place a.base l.spots l.at l.invariant _ _ _
+    (sym c.child_at.ensures ∙ c.in-Whole.is) _ c.family_place-j.ensures _ c.if-j-lt7.true c.if-old-ne0.true)
 
 pub loop-kind-smaller-else-old-ne0 : goal.loop-kind-smaller-else-old-ne0
 loop-kind-smaller-else-old-ne0 c =
     let a = c.args in
     let l = c.loop-kind in
     let w = further a.s.now a.place a.base l.spots l.at l.invariant _ _ _
-    (sym c.child_at-c.ensures ∙ c.in-Whole.is) in
+    (sym c.child_at.ensures ∙ c.in-Whole.is) in
     omega arith
 
 pub loop-kind-preserved-else-old-ne0 : goal.loop-kind-preserved-else-old-ne0
@@ -32,14 +30,14 @@ loop-kind-preserved-else-old-ne0 c =
     let a = c.args in
     let l = c.loop-kind in
     seated a.s.now a.place a.base l.spots l.at l.invariant _ _ _
-    (sym c.child_at-c.ensures ∙ c.in-Whole.is) _ c.family_place-j.ensures _ c.if-j-lt7.true c.if-old-ne0.false
+    (sym c.child_at.ensures ∙ c.in-Whole.is) _ c.family_place-j.ensures _ c.if-j-lt7.true c.if-old-ne0.false
 
 pub loop-kind-smaller : goal.loop-kind-smaller
 loop-kind-smaller c =
     let a = c.args in
     let l = c.loop-kind in
     let w = further a.s.now a.place a.base l.spots l.at l.invariant _ _ _
-    (sym c.child_at-c.ensures ∙ c.in-Whole.is) in
+    (sym c.child_at.ensures ∙ c.in-Whole.is) in
     omega arith
 
 pub loop-kind-preserved : goal.loop-kind-preserved
@@ -47,28 +45,22 @@ loop-kind-preserved c =
     let a = c.args in
     let l = c.loop-kind in
     passed a.s.now a.place a.base l.spots l.at l.invariant _ _ _
-    (sym c.child_at-c.ensures ∙ c.in-Whole.is) _ c.family_place-j.ensures c.if-j-lt7.false
+    (sym c.child_at.ensures ∙ c.in-Whole.is) _ c.family_place-j.ensures c.if-j-lt7.false
 
 pub returns-in-Bad : goal.returns-in-Bad
 returns-in-Bad c =
     let a = c.args in
     let l = c.loop-kind in
-    let w = at-bad a.s.now a.place a.base l.spots l.at l.invariant
-    (sym c.child_at-c.ensures ∙ c.in-Bad.is) in
-    (c.refused_family-in-Bad.ensures.0 ∙ w.0, c.refused_family-in-Bad.ensures.1 ∙ w.1)
+    rw c.refused-in-Bad.ensures (at-bad a.s.now a.place a.base l.spots l.at l.invariant (sym c.child_at.ensures ∙ c.in-Bad.is))
 
 pub returns-in-Spare : goal.returns-in-Spare
 returns-in-Spare c =
     let a = c.args in
     let l = c.loop-kind in
-    let w = at_spare a.s.now a.place a.base l.spots l.at l.invariant
-    (sym c.child_at-c.ensures ∙ c.in-Spare.is) in
-    (c.refused_family-in-Spare.ensures.0 ∙ w.0, c.refused_family-in-Spare.ensures.1 ∙ w.1)
+    rw c.refused-in-Spare.ensures (at_spare a.s.now a.place a.base l.spots l.at l.invariant (sym c.child_at.ensures ∙ c.in-Spare.is))
 
 pub returns-in-End : goal.returns-in-End
 returns-in-End c =
     let a = c.args in
     let l = c.loop-kind in
-    let w = at-end a.s.now a.place a.base l.spots l.at l.invariant
-    (sym c.child_at-c.ensures ∙ c.in-End.is) in
-    (c.whole_family.ensures.0 ∙ w.0, c.whole_family.ensures.1 ∙ w.1)
+    at-end a.s.now a.place a.base l.spots l.at l.invariant (sym c.child_at.ensures ∙ c.in-End.is)

@@ -2,6 +2,7 @@
 use Rattle.boxes.proofs.HeaderLaws.{says-long, child_whole, child_wrong, child_half}
 use native.Mathlib.Omega.{arith}
 use Rattle.boxes.proofs.wide_child.Goals as goal
+use Rattle.boxes.proofs.wide_child.Goals.{then-size-lt16-via-then-size-lt16, then-size-lt16-via-else-size-lt16+then-left-size}
 
 pub returns-then-left-lt16 : goal.returns-then-left-lt16
 returns-then-left-lt16 c =
@@ -14,14 +15,10 @@ returns-then-size-lt16 c =
     let a = c.args in
     let p = c.requires in
     child_wrong a.s.now a.at _ _ _ (says-long a.s.now a.at _ _ p.2 c.be64-size.ensures p.1
-    c.if-left-lt16.false) (λ i j. absurd (omega (arith, c.if-size-lt16.true)))
-
-pub returns-then-left-size : goal.returns-then-left-size
-returns-then-left-size c =
-    let a = c.args in
-    let p = c.requires in
-    child_wrong a.s.now a.at _ _ _ (says-long a.s.now a.at _ _ p.2 c.be64-size.ensures p.1
-    c.if-left-lt16.false) (λ i j. absurd (omega (arith, c.if-left-size.true)))
+    c.if-left-lt16.false) (λ i j. elim c.then-size-lt16.branch [
+      | then-size-lt16-via-then-size-lt16 w ↦ absurd (omega (arith, w.if-size-lt16.true))
+      | then-size-lt16-via-else-size-lt16+then-left-size w ↦ absurd (omega (arith, w.if-left-size.true))
+    ])
 
 pub returns : goal.returns
 returns c =

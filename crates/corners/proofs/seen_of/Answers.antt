@@ -3,15 +3,12 @@ use mathlib.Core.Path.{sym, ◌∙◌}
 use Rattle.fields.proofs.FieldLaws.{pick_yes, pick_no}
 use Rattle.corners.proofs.seen_of.Goals as goal
 
-pub returns-then-around : goal.returns-then-around
-returns-then-around c =
-    c.seen_in.ensures ∙ rw (c.whole.ensures, sym c.seen_in-seen.ensures ∙ c.in-None.is)
+pub returns-in-None : goal.returns-in-None
+returns-in-None c =
+    c.seen_in-in-None.ensures ∙ rw (c.whole.ensures, sym c.in-None.ensures)
     (sym (pick_yes _ _ c.if-around.true))
 
-pub returns-in-Is : goal.returns-in-Is
-returns-in-Is c = rw (sym c.seen_in-seen.ensures ∙ c.in-Is.is)
-
-pub returns-else-around : goal.returns-else-around
-returns-else-around c =
-    rw (sym c.seen_in-seen.ensures ∙ c.in-None.is)
+pub returns-in-None-2 : goal.returns-in-None-2
+returns-in-None-2 c =
+    rw (sym c.in-None.ensures)
     (sym (pick_no _ _ c.if-around.false))

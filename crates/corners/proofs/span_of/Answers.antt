@@ -22,5 +22,5 @@ returns-then-end-a c =
 pub returns : goal.returns
 unfolding span_of
 returns c =
-    rw (c.less.ensures, c.least.ensures) (sym (pick_no _ _ (ne_eqb _ _ c.if-side-eq0.false) ∙
+    rw (c.saturating_sub.ensures, c.min.ensures) (sym (pick_no _ _ (ne_eqb _ _ c.if-side-eq0.false) ∙
     pick_no _ _ (le-ltb _ _ c.if-z-corner.false) ∙ pick_no _ _ (lt-leb _ _ c.if-end-a.false)))

@@ -4,7 +4,7 @@
 --   span_of first last c side   what of a side that begins at c is seen from a first to a last pixel
 --   seen_in part c s            what of an input of size s at the corner c is seen in a part of its canvas
 --   seen_of part z around c s   the same; if nothing is and what is cut away is drawn too, what lies on a canvas of size z
-use Rattle.std.specs.Prelude.{ℕ, ◌+◌, ◌*◌, ◌-◌, ◌/◌, ◌%◌, min, Bool, ltb, leb, eqb}
+use Rattle.std.specs.Prelude.{ℕ, ◌+◌, ◌*◌, ◌-◌, ◌/◌, ◌%◌, min, Bool, ltb, leb, eqb, Option, Some, None}
 use Rattle.fields.specs.Choice.{pick}
 use Rattle.pictures.specs.declared.Size.{Size}
 use Rattle.pictures.specs.Signed.{Signed, plus, minus}
@@ -12,9 +12,6 @@ use Rattle.layout.specs.declared.part.Part.{Part}
 use Rattle.layout.specs.inner.Part.{whole_of}
 use Rattle.corners.specs.declared.Corner.{Corner}
 use Rattle.corners.specs.declared.Span.{Span}
-use Rattle.corners.specs.declared.Span.TheVariants as span
-use Rattle.corners.specs.declared.Seen.{Seen}
-use Rattle.corners.specs.declared.Seen.TheVariants as seen
 
 abbrev pub raised : Signed → ℕ
 raised (plus n) = 2147483648 + n
@@ -24,23 +21,24 @@ raised (minus n) = 2147483648 - n
 abbrev pub tile_in : ℕ → ℕ → Size → Corner
 tile_in columns k s = record { x = 2147483648 + k % columns * s.wide; y = 2147483648 + k / columns * s.high }
 
-unfoldable pub span_of : ℕ → ℕ → ℕ → ℕ → Span
+unfoldable pub span_of : ℕ → ℕ → ℕ → ℕ → Option Span
 span_of first last c side =
-    pick (eqb side 0) span.None
-    (pick (ltb (2147483648 + last) c) span.None
-    (pick (leb (c + side) (2147483648 + first)) span.None (span.Is (2147483648 + first - c) (min (2147483648 + last - c) (side - 1)))))
+    pick (eqb side 0) None
+    (pick (ltb (2147483648 + last) c) None
+    (pick (leb (c + side) (2147483648 + first)) None
+    (Some (record { from = 2147483648 + first - c; to = min (2147483648 + last - c) (side - 1) }))))
 
-abbrev pub both : Span → Span → Seen
-both (span.Is l r) (span.Is t b) = seen.Is (record { left = l; top = t; right = r; bottom = b })
-both (span.Is l r) span.None = seen.None
-both span.None y = seen.None
+abbrev pub both : Option Span → Option Span → Option Part
+both (Some x) (Some y) = Some (record { left = x.from; top = y.from; right = x.to; bottom = y.to })
+both (Some x) None = None
+both None y = None
 
-abbrev pub seen_in : Part → Corner → Size → Seen
+abbrev pub seen_in : Part → Corner → Size → Option Part
 seen_in part c s = both (span_of part.left part.right c.x s.wide) (span_of part.top part.bottom c.y s.high)
 
-abbrev pub or_else : Bool → Seen → Seen → Seen
-or_else around (seen.Is p) other = seen.Is p
-or_else around seen.None other = pick around other seen.None
+abbrev pub or_else : Bool → Option Part → Option Part → Option Part
+or_else around (Some p) other = Some p
+or_else around None other = pick around other None
 
-abbrev pub seen_of : Part → Size → Bool → Corner → Size → Seen
+abbrev pub seen_of : Part → Size → Bool → Corner → Size → Option Part
 seen_of part z around c s = or_else around (seen_in part c s) (seen_in (whole_of z) c s)

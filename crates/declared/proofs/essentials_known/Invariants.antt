@@ -1,6 +1,6 @@
 -- `declared::essentials_known` meets its contract. The loop's invariant: what is left from j on says the same as the
--- whole. The measure is what is left. Assumes nothing.
-use Prim.Native.Nat.{ℕ, ◌-◌, ◌≤◌, ◌<◌}
+-- whole. Assumes nothing.
+use Prim.Native.Nat.{ℕ, ◌<◌}
 use mathlib.Core.Path.{◌≡◌}
 use mathlib.Core.List.{List}
 use lib.ListN.{length, drop}
@@ -13,9 +13,6 @@ use Rattle.declared.proofs.essentials_known.Given as goal
 
 abbrev pub invariant-loop-j : goal.invariant-loop-j
 invariant-loop-j l =
-    (l.j ≤ l.n) × ((head : List ℕ) (pl : Places) (f : File) → TableOf l.table head pl f → l.row.0 < length f.items →
+    (head : List ℕ) (pl : Places) (f : File) → TableOf l.table head pl f → l.row.0 < length f.items →
     essential_known f (associations_of f (id_of f l.row.0)) ≡ essential_known f
-    (drop l.j (associations_of f (id_of f l.row.0))))
-
-abbrev pub decreases-loop-j : goal.decreases-loop-j
-decreases-loop-j l = l.n - l.j
+    (drop l.j (associations_of f (id_of f l.row.0)))

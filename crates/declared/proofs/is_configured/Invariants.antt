@@ -1,6 +1,6 @@
 -- `declared::is_configured` meets its contract. The loop's invariant: what is left from j on says the same as the whole,
--- behind one that is marked where one was seen. The measure is what is left. Assumes nothing.
-use Prim.Native.Nat.{ℕ, ◌-◌, ◌≤◌, ◌<◌}
+-- behind one that is marked where one was seen. Assumes nothing.
+use Prim.Native.Nat.{ℕ, ◌<◌}
 use mathlib.Core.Path.{◌≡◌}
 use mathlib.Core.List.{List}
 use lib.ListN.{length}
@@ -14,8 +14,5 @@ use Rattle.declared.proofs.is_configured.Given as goal
 
 abbrev pub invariant-loop-j : goal.invariant-loop-j
 invariant-loop-j l =
-    (l.j ≤ l.n) × ((head : List ℕ) (pl : Places) (f : File) → TableOf l.table head pl f → l.row.0 < length f.items →
-    configured f (item_at f l.row.0) ≡ marked_from f (id_of f l.row.0) l.j l.seen)
-
-abbrev pub decreases-loop-j : goal.decreases-loop-j
-decreases-loop-j l = l.n - l.j
+    (head : List ℕ) (pl : Places) (f : File) → TableOf l.table head pl f → l.row.0 < length f.items →
+    configured f (item_at f l.row.0) ≡ marked_from f (id_of f l.row.0) l.j l.seen

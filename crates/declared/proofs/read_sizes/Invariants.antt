@@ -1,6 +1,6 @@
 -- `declared::read_sizes` meets its contract. The loop's invariant: what is left from j on, behind the sizes read so
--- far, tells the same as the whole. The measure is what is left. Assumes nothing.
-use Prim.Native.Nat.{◌-◌, ◌≤◌, ◌<◌}
+-- far, tells the same as the whole. Assumes nothing.
+use Prim.Native.Nat.{◌<◌}
 use mathlib.Core.Path.{◌≡◌}
 use lib.ListN.{length}
 use Rattle.contents.specs.File.{File}
@@ -12,8 +12,5 @@ use Rattle.declared.proofs.read_sizes.Given as goal
 
 abbrev pub invariant-loop-j : goal.invariant-loop-j
 invariant-loop-j l =
-    (l.j ≤ l.n) × ((pl : Places) (f : File) → TableOf l.table l.head pl f → l.row.0 < length f.items →
-    told_sizes f (id_of f l.row.0) ≡ told_from f (id_of f l.row.0) l.j l.sized l.declared l.output)
-
-abbrev pub decreases-loop-j : goal.decreases-loop-j
-decreases-loop-j l = l.n - l.j
+    (pl : Places) (f : File) → TableOf l.table l.head pl f → l.row.0 < length f.items →
+    told_sizes f (id_of f l.row.0) ≡ told_from f (id_of f l.row.0) l.j l.sized l.declared l.output

@@ -6,11 +6,5 @@ use Rattle.depths.proofs.row_in_sweep.Goals as goal
 pub returns-then-up : goal.returns-then-up
 returns-then-up c = (row_up _ _ _ c.if-up.true, c.requires)
 
-pub overflow_sub-result : goal.overflow_sub-result
-overflow_sub-result c = omega (arith, c.requires)
-
-pub overflow_sub-result-2 : goal.overflow_sub-result-2
-overflow_sub-result-2 c = omega (arith, c.requires)
-
 pub returns : goal.returns
 returns c = (row-down _ _ _ c.if-up.false, omega (arith, c.requires))

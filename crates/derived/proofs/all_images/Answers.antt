@@ -1,5 +1,4 @@
--- `derived::all_images` meets its contract. The loop's invariant: all are images if those from here on are. The measure
--- is what is left of them. Assumes nothing.
+-- `derived::all_images` meets its contract. The loop's invariant: all are images if those from here on are. Assumes nothing.
 use Prim.Native.Nat.{◌<◌}
 use native.Mathlib.Omega.{arith}
 use mathlib.Core.Path.{refl}
@@ -13,7 +12,7 @@ pub returns-then-table-lt-WORDS : goal.returns-then-table-lt-WORDS
 returns-then-table-lt-WORDS c = λ head pl f v w h. absurd (omega (arith, v.enough))
 
 pub loop-j-init : goal.loop-j-init
-loop-j-init c = (omega arith, λ head pl f v w h. refl)
+loop-j-init c = λ head pl f v w h. refl
 
 pub returns-then-not-is_image : goal.returns-then-not-is_image
 returns-then-not-is_image c =
@@ -23,19 +22,17 @@ returns-then-not-is_image c =
     let l : j < length (targets_of f (id_of f a.row.0)) = omega (arith, c.input_count-n.ensures head pl f v h) in
     images_not f _ j l _ (input-image v a.row.0 j l _ _ _ (c.input_of.ensures head pl f v w h l)
     c.held_word.ensures c.is_image.ensures) (c.if-not-is_image.true)
-    (c.loop-j.invariant.1 head pl f v w h)
+    (c.loop-j.invariant head pl f v w h)
 
 pub loop-j-preserved : goal.loop-j-preserved
-loop-j-preserved c = (
-  omega arith,
-  λ head pl f v w h. let a = c.args in let j = c.loop-j.j in
-      let l : j < length (targets_of f (id_of f a.row.0)) = omega (arith, c.input_count-n.ensures head pl f v h) in
-      images_more f _ j l _ (input-image v a.row.0 j l _ _ _ (c.input_of.ensures head pl f v w h l)
-      c.held_word.ensures c.is_image.ensures) (c.if-not-is_image.false)
-      (c.loop-j.invariant.1 head pl f v w h),
-)
+loop-j-preserved c =
+    λ head pl f v w h. let a = c.args in let j = c.loop-j.j in
+    let l : j < length (targets_of f (id_of f a.row.0)) = omega (arith, c.input_count-n.ensures head pl f v h) in
+    images_more f _ j l _ (input-image v a.row.0 j l _ _ _ (c.input_of.ensures head pl f v w h l)
+    c.held_word.ensures c.is_image.ensures) (c.if-not-is_image.false)
+    (c.loop-j.invariant head pl f v w h)
 
 pub returns : goal.returns
 returns c =
     λ head pl f v w h. images_all f _ c.loop-j.j
-    (omega (arith, c.input_count-n.ensures head pl f v h)) (c.loop-j.invariant.1 head pl f v w h)
+    (omega (arith, c.input_count-n.ensures head pl f v h)) (c.loop-j.invariant head pl f v w h)

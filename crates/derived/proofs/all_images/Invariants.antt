@@ -1,6 +1,5 @@
--- `derived::all_images` meets its contract. The loop's invariant: all are images if those from here on are. The measure
--- is what is left of them. Assumes nothing.
-use Prim.Native.Nat.{ℕ, ◌-◌, ◌≤◌, ◌<◌}
+-- `derived::all_images` meets its contract. The loop's invariant: all are images if those from here on are. Assumes nothing.
+use Prim.Native.Nat.{ℕ, ◌<◌}
 use mathlib.Core.Path.{◌≡◌}
 use mathlib.Core.List.{List}
 use lib.ListN.{length, drop}
@@ -14,9 +13,6 @@ use Rattle.derived.proofs.all_images.Given as goal
 
 abbrev pub invariant-loop-j : goal.invariant-loop-j
 invariant-loop-j l =
-    (l.j ≤ l.n) × ((head : List ℕ) (pl : Places) (f : File) → TableOf l.table head pl f → Resolved l.table l.rows f →
+    (head : List ℕ) (pl : Places) (f : File) → TableOf l.table head pl f → Resolved l.table l.rows f →
     l.row.0 < length f.items → all_images f (targets_of f (id_of f l.row.0)) ≡ all_images f
-    (drop l.j (targets_of f (id_of f l.row.0))))
-
-abbrev pub decreases-loop-j : goal.decreases-loop-j
-decreases-loop-j l = l.n - l.j
+    (drop l.j (targets_of f (id_of f l.row.0)))

@@ -12,8 +12,8 @@ returns-then-input_count-eq0 c =
     (test_read w.view c.args.row.0 h derived _ _ c.type_of.ensures c.is_derived.ensures ∙
     c.if-not-is_derived.true) _ (c.input_count.ensures _ _ f w.view h) c.if-input_count-eq0.true
 
-pub returns-then-not-is_derived : goal.returns-then-not-is_derived
-returns-then-not-is_derived c =
+pub returns-else-input_count-eq0 : goal.returns-else-input_count-eq0
+returns-else-input_count-eq0 c =
     λ total f w h v k. plain_inputs total _ f (item_at f c.args.row.0)
     (test_read w.view c.args.row.0 h derived _ _ c.type_of.ensures c.is_derived.ensures ∙
     c.if-not-is_derived.true) _ (c.input_count.ensures _ _ f w.view h) c.if-input_count-eq0.false

@@ -6,26 +6,19 @@ use lib.ListN.{replicate, get_or-replicate}
 use Rattle.derived.proofs.JoinedLaws.{size-told, size-known, joined-part}
 use Rattle.derived.proofs.SaidLaws.{front-is}
 use Rattle.derived.proofs.front_of.Goals as goal
-use Rattle.derived.proofs.front_of.Goals.{then-size-lt18, else-size-lt18}
-
-pub copy_bytes-requires : goal.copy_bytes-requires
-copy_bytes-requires c =
-    elim c.if-size-lt18.branch [ then-size-lt18 x ↦ omega arith | else-size-lt18 x ↦ omega arith ]
 
 pub returns : goal.returns
 returns c =
     let a = c.args in
-    let few : (c.if-size-lt18.n ≤ c.length_of-size.result) × (c.if-size-lt18.n ≤ 18) ×
-    (c.if-size-lt18.n < c.length_of-size.result → c.if-size-lt18.n ≡ 18) = elim c.if-size-lt18.branch [
-      | then-size-lt18 x ↦ (omega arith, omega arith, λ l. absurd (omega arith))
-      | else-size-lt18 x ↦ (omega arith, omega arith, λ l. x.n-is)
-    ] in record {
+    let n = c.min-n.result in
+    let few : (n ≤ c.length_of-size.result) × (n ≤ 18) × (n < c.length_of-size.result → n ≡ 18) = (omega arith, omega arith, λ l. omega arith) in
+    record {
       by_index = λ total f w h b e.
           let z = size-known w a.row.0 h b e c.length_of-size.result (size-told w a.row.0 h c.length_of-size.result c.length_of-size.ensures) in (
             z,
-            front-is b (replicate 18 0) _ c.if-size-lt18.n refl (λ i l. get_or-replicate 18 i 0 0 l) (omega (arith, few.0)) few.1
+            front-is b (replicate 18 0) _ n refl (λ i l. get_or-replicate 18 i 0 0 l) (omega (arith, few.0)) few.1
                 (λ l. few.2 (omega arith))
-                (joined-part w a.row.0 h b e 0 c.if-size-lt18.n (omega (arith, few.0)) (replicate 18 0) _ few.1 c.copy_bytes.ensures.by_index),
+                (joined-part w a.row.0 h b e 0 n (omega (arith, few.0)) (replicate 18 0) _ few.1 c.copy_bytes.ensures.by_index),
           );
       bytes_len = c.copy_bytes.ensures.out_len_unchanged;
     }

@@ -7,7 +7,7 @@
 --   derivation_for ..     the recipe of a derived item by its number of inputs and its body, whatever its inputs are:
 -- what rule 17 asks behind the test of these
 --   told_derivation m     a derivation's recipe without an overlay's offsets, which stay in the body
-use Rattle.std.specs.Prelude.{ℕ, ◌+◌, ◌≤◌, ◌<◌, ◌≡◌, List, [], Bool, true, false, ◌&&◌, not, length, get_or, eqb}
+use Rattle.std.specs.Prelude.{ℕ, ◌+◌, ◌≤◌, ◌<◌, ◌≡◌, List, [], Bool, true, false, ◌&&◌, not, length, get_or, eqb, Option, Some, None}
 use Rattle.fields.specs.Choice.{pick}
 use Rattle.boxes.specs.Answer.{Answer, ok, refuse, ◌>>=◌}
 use Rattle.boxes.specs.Types.{iden, grid}
@@ -18,8 +18,7 @@ use Rattle.contents.specs.File.{File, read_file}
 use Rattle.forms.specs.Form.{whole}
 use Rattle.pictures.specs.Recipe.{Recipe, Coded, Copy, Opaque, Tiles, Layers, Grid, grid_form, iovl_form}
 use Rattle.pictures.specs.inner.Told.{told_overlay}
-use Rattle.pictures.specs.declared.OverlayRead.{OverlayRead}
-use Rattle.pictures.specs.declared.OverlayRead.TheVariants as overlay
+use Rattle.pictures.specs.declared.Overlay as overlays
 use Rattle.rules.specs.Joined.{location_of, row_of}
 use Rattle.rules.specs.Places.{places_in}
 use Rattle.rules.specs.Bytes.{body_of}
@@ -68,9 +67,9 @@ abbrev pub grid_in : Answer (List ℕ) → Answer Grid
 grid_in m = m >>= (λ b. whole grid_form 0 b)
 
 -- what an overlay's body says, its offsets aside
-abbrev pub OverlayIs : Answer (List ℕ) → ℕ → OverlayRead → Type 0
+abbrev pub OverlayIs : Answer (List ℕ) → ℕ → Option overlays.Overlay → Type 0
 OverlayIs (ok b) n r = r ≡ told_overlay b (whole (iovl_form n) 0 b)
-OverlayIs (refuse k p) n r = r ≡ overlay.Wrong
+OverlayIs (refuse k p) n r = r ≡ None
 
 unfoldable pub body_or : Answer (List ℕ) → List ℕ
 body_or (ok b) = b
@@ -81,10 +80,10 @@ derivation_for total head f item = pick (eqb item.type iden) (copy_of total head
     (pick (eqb item.type grid) (tiles_of total head f item) (layers_of total head f item))
 
 -- no derivation gives a coded or an opaque item
-unfoldable pub told_derivation : Answer Recipe → Derivation
-told_derivation (ok Coded) = made.Wrong
-told_derivation (ok Copy) = made.Copy
-told_derivation (ok Opaque) = made.Wrong
-told_derivation (ok (Tiles g)) = made.Tiles g.rows g.columns g.wide g.high
-told_derivation (ok (Layers o)) = made.Layers o.wide o.high
-told_derivation (refuse n p) = made.Wrong
+unfoldable pub told_derivation : Answer Recipe → Option Derivation
+told_derivation (ok Coded) = None
+told_derivation (ok Copy) = Some made.Copy
+told_derivation (ok Opaque) = None
+told_derivation (ok (Tiles g)) = Some (made.Tiles g.rows g.columns g.wide g.high)
+told_derivation (ok (Layers o)) = Some (made.Layers o.wide o.high)
+told_derivation (refuse n p) = None

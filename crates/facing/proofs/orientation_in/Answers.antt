@@ -1,30 +1,25 @@
 -- `facing::orientation_in` meets its contract. Assumes nothing.
-use mathlib.Core.Path.{sym, ◌∙◌}
-use Rattle.facing.proofs.OrientedLaws.{oriented_off, oriented_row, oriented_cut, oriented_whole}
+use mathlib.Core.Path.{sym}
+use Rattle.std.proofs.lemmas.Result.{err_from_is_err_and}
+use Rattle.boxes.specs.Answer.{◌>>=◌}
+use Rattle.boxes.proofs.ToldLaws.{told-refused}
+use Rattle.asked.specs.inner.Told.{row_at}
+use Rattle.asked.proofs.PicturedLaws.{row_told, picture-listed}
+use Rattle.facing.specs.Orientation.{orientation_in}
+use Rattle.facing.specs.Told.{told_oriented}
+use Rattle.facing.proofs.OrientedLaws.{oriented}
 use Rattle.facing.proofs.orientation_in.Goals as goal
 
-pub returns-in-Refused : goal.returns-in-Refused
-returns-in-Refused c =
-    let a = c.args in
-    λ total pl f v. oriented_off total a.head.now f a.id.0 _
-    (sym (c.picture_row-p.ensures a.head.now pl f v) ∙ c.in-Refused.is)
+pub returns-in_err-row : goal.returns-in_err-row
+unfolding told_oriented orientation_in ◌>>=◌
+returns-in_err-row c =
+    let p = err_from_is_err_and c.from_residual.result c.from_residual.ensures.1 in
+    λ total pl f v. rw (p.1, p.2, told-refused row_at _ _ (sym (c.in_err-row.ensures c.args.head.now pl f v)))
 
-pub returns-in-Cropped : goal.returns-in-Cropped
-returns-in-Cropped c =
+pub returns : goal.returns
+returns c =
     let a = c.args in
     λ total pl f v.
-    let q = sym (c.picture_row-p.ensures a.head.now pl f v) ∙
-    c.in-At.is in
-    oriented_cut total a.head.now f a.id.0 _ q _
-    (c.orientation_of-o.ensures pl f v (oriented_row total a.head.now f a.id.0 _ q))
-    c.in-Cropped.is _ c.refusal.ensures.0 c.refusal.ensures.1
-
-pub returns-in-Is : goal.returns-in-Is
-returns-in-Is c =
-    let a = c.args in
-    λ total pl f v.
-    let q = sym (c.picture_row-p.ensures a.head.now pl f v) ∙
-    c.in-At.is in
-    oriented_whole total a.head.now f a.id.0 _ q _
-    (c.orientation_of-o.ensures pl f v (oriented_row total a.head.now f a.id.0 _ q)) _
-    c.in-Is.is
+    let e = row_told _ _ (c.in_ok-row.ensures a.head.now pl f v) in
+    rw c.ok_or.ensures.value (oriented total a.head.now f a.id.0 _ e _
+    (c.orientation_of.ensures pl f v (picture-listed f _ _ e)) _ c.refusal.ensures.0 c.refusal.ensures.1)

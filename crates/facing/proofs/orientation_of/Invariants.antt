@@ -1,6 +1,6 @@
 -- `facing::orientation_of` meets its contract. The loop's invariant: the transforms from j on face by `faced`, and no
--- `clap` is among them. The measure is j. Assumes nothing.
-use Prim.Native.Nat.{◌-◌, ◌≤◌, ◌<◌}
+-- `clap` is among them. Assumes nothing.
+use Prim.Native.Nat.{◌<◌}
 use lib.ListN.{length}
 use Rattle.contents.specs.File.{File}
 use Rattle.rules.specs.Joined.{boxes_of}
@@ -11,8 +11,5 @@ use Rattle.facing.proofs.orientation_of.Given as goal
 
 abbrev pub invariant-loop-j : goal.invariant-loop-j
 invariant-loop-j l =
-    (l.j ≤ l.initial.j) × ((pl : Places) (f : File) → TableOf l.table l.head pl f → l.row.0 < length f.items →
-    FacedFrom (boxes_of f (id_of f l.row.0)) l.j l.faced)
-
-abbrev pub decreases-loop-j : goal.decreases-loop-j
-decreases-loop-j l = l.j
+    (pl : Places) (f : File) → TableOf l.table l.head pl f → l.row.0 < length f.items →
+    FacedFrom (boxes_of f (id_of f l.row.0)) l.j l.faced

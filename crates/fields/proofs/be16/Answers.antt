@@ -1,20 +1,7 @@
 -- `fields::be16` meets its contract. Assumes nothing.
-use Prim.Native.Nat.{◌+◌, ◌^◌, ◌<◌}
-use Rattle.fields.proofs.FieldLaws.{be_join, be_below}
+use Rattle.fields.proofs.FieldLaws.{be_join}
 use native.Mathlib.Omega.{arith}
 use Rattle.fields.proofs.be16.Goals as goal
-
--- both halves are below 256 ^ 1
-halves : (c : goal.After-be8-low) → (c.be8-high.result < 256 ^ 1) × (c.be8-low.result < 256 ^ 1)
-halves c =
-    let a = c.args in
-    (omega (arith, be_below a.s.now a.at 1 c.type_inv.s), omega (arith, be_below a.s.now (a.at + 1) 1 c.type_inv.s))
-
-pub overflow_mul-result : goal.overflow_mul-result
-overflow_mul-result c = let h = halves c in omega arith
-
-pub overflow_add-result : goal.overflow_add-result
-overflow_add-result c = let h = halves c in omega arith
 
 pub returns : goal.returns
 returns c =

@@ -1,20 +1,7 @@
 -- `fields::be32` meets its contract. Assumes nothing.
-use Prim.Native.Nat.{◌+◌, ◌^◌, ◌<◌}
-use Rattle.fields.proofs.FieldLaws.{be_join, be_below}
+use Rattle.fields.proofs.FieldLaws.{be_join}
 use native.Mathlib.Omega.{arith}
 use Rattle.fields.proofs.be32.Goals as goal
-
--- both halves are below 256 ^ 2
-halves : (c : goal.After-be16-low) → (c.be16-high.result < 256 ^ 2) × (c.be16-low.result < 256 ^ 2)
-halves c =
-    let a = c.args in
-    (omega (arith, be_below a.s.now a.at 2 c.type_inv.s), omega (arith, be_below a.s.now (a.at + 2) 2 c.type_inv.s))
-
-pub overflow_mul-result : goal.overflow_mul-result
-overflow_mul-result c = let h = halves c in omega arith
-
-pub overflow_add-result : goal.overflow_add-result
-overflow_add-result c = let h = halves c in omega arith
 
 pub returns : goal.returns
 returns c =

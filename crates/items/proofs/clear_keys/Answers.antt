@@ -1,25 +1,20 @@
--- `items::clear_keys` meets its contract: the words from 256 up to k are filled. Assumes nothing.
+-- `items::clear_keys` meets its contract. Assumes nothing.
+use Prim.Native.Nat.{ℕ, ◌≤◌}
 use native.Mathlib.Omega.{arith}
 use mathlib.Core.Path.{◌≡◌, ap, ◌∙◌}
-use lib.ListN.{length-set}
-use Rattle.items.proofs.MoveLaws.{filled_to, clear_begin, clear_more, clear_end}
+use mathlib.Core.List.{List, ◌++◌, append-nil}
+use lib.ListN.{length, take, drop, replicate, length-take, length-drop, drop_of_length-le}
+use Rattle.records.specs.inner.Keys.{no_key}
 use Rattle.items.proofs.clear_keys.Goals as goal
 
-pub loop-k-init : goal.loop-k-init
-loop-k-init c = (omega arith, omega arith, c.requires, clear_begin c.args.keys.now 256)
-
-pub loop-k-preserved : goal.loop-k-preserved
-loop-k-preserved c =
-    let l = c.loop-k in (
-      omega arith,
-      omega arith,
-      length-set l.keys l.k _ ∙ l.invariant.2,
-      clear_more c.args.keys.now 256 l.keys l.k (omega arith) (omega arith) l.invariant.3,
-    )
+-- the upper half of 512 words, written
+upper_half : (m x : List ℕ) → length m ≡ 512 → x ≡ replicate (length (take 256 (drop 256 m))) no_key →
+    take 256 m ++ (x ++ drop 256 (drop 256 m)) ≡ take 256 m ++ replicate 256 no_key
+upper_half m x h e =
+    let n : length (take 256 (drop 256 m)) ≡ 256 = simp (length-take, length-drop) (omega arith) in
+    let l : length (drop 256 m) ≤ 256 = simp length-drop (omega arith) in
+    ap (λ (y : List ℕ). take 256 m ++ (x ++ y)) (drop_of_length-le (drop 256 m) l)
+    ∙ ap (λ (y : List ℕ). take 256 m ++ y) (append-nil x ∙ e ∙ ap (λ (k : ℕ). replicate k no_key) n)
 
 pub returns : goal.returns
-returns c =
-    let m = c.args.keys.now in
-    let l = c.loop-k in
-    let e : l.k ≡ 512 = omega arith in
-    l.invariant.3 ∙ ap (filled_to m 256) e ∙ clear_end m 256 512 (omega arith)
+returns c = upper_half c.args.keys.now _ c.requires (c.fill.ensures.after (λ y q. q))

@@ -33,8 +33,8 @@ returns-then-keys-k c =
     (subst (λ (x : ℕ). LastUpto a.keys.now (x + 255) c.last_upto-k.result) c.key_of-key.ensures c.last_upto-k.ensures)
     (omega (arith, c.if-keys-end.false)) (omega (arith, c.if-key-keys.false)) (omega (arith, c.if-keys-k.true))
 
-pub returns : goal.returns
-returns c =
+pub returns-else-keys-k : goal.returns-else-keys-k
+returns-else-keys-k c =
     let a = c.args in
     λ ids h. room_taken ids a.at a.keys.now h a.id.0 (small _ _ c.well_formed.1.1.0) _
     (subst (λ (x : ℕ). LastUpto a.keys.now (x + 255) c.last_upto-k.result) c.key_of-key.ensures c.last_upto-k.ensures)

@@ -5,29 +5,24 @@ use mathlib.Core.Path.{sym, ◌∙◌}
 use borrow.Author.Tests.{eq-eqb, ne_eqb}
 use Rattle.linking.specs.inner.Links.{first_extent, extents}
 use Rattle.joining.proofs.PlaceLaws.{holder_at}
-use Rattle.joining.proofs.PieceLaws.{lesser_low, piece_none, piece_filed, piece_made, piece_last}
+use Rattle.joining.proofs.PieceLaws.{piece_none, piece_filed, piece_made, piece_last}
 use Rattle.joining.proofs.+piece_at.Goals as goal
-
--- what is found lies in the table
-pub size_at-requires : goal.size_at-requires
-size_at-requires t c = ((c.holder_of-h.ensures.by_index c.in-Extent.e c.in-Extent.rest c.in-Extent.is).0, c.requires.0)
 
 pub returns-then-held_word-ne2 : goal.returns-then-held_word-ne2
 returns-then-held_word-ne2 t c =
     let a = c.args in
-    let h = c.holder_of-h in
-    let g = c.in-Extent in
+    let g = c.in-Some.field-0 in
     let s = c.size_at in
-    let l = c.lesser-here in
+    let l = c.min-here in
     record {
       by_index = λ m w rl ch some long. piece_filed a.table.now a.rows.now m a.row.0 w rl a.d a.p a.n g.e
-          g.rest s.result c.offset_at.result l.result c.capped_sum-from.result
+          g.rest s.result c.offset_at.result l.result c.saturating_add-from.result
           (holder_at a.table.now (first_extent a.table.now a.row.0) (extents a.table.now a.row.0)
-          a.p g.e g.rest h.result (h.ensures.value (omega (arith, rl, w.links.few))
-          (w.links.room a.row.0 rl)) g.is) s.ensures c.offset_at.ensures l.ensures
-          c.capped_sum-from.ensures ch some (ne_eqb _ 2 (λ e. c.if-held_word-ne2.true
+          a.p g (c.in-Some.ensures.value (omega (arith, rl, w.links.few))
+          (w.links.room a.row.0 rl))) s.ensures c.offset_at.ensures l.ensures
+          c.saturating_add-from.ensures ch some (ne_eqb _ 2 (λ e. c.if-held_word-ne2.true
           (c.held_word.ensures (omega (arith, rl, w.links.few)) ∙ e)));
-      size_le_n = omega (arith, l.ensures, (lesser_low a.n (s.result - g.rest)).0);
+      size_le_n = omega (arith, l.ensures);
     }
 
 pub returns-then-d-eq0 : goal.returns-then-d-eq0
@@ -39,33 +34,30 @@ returns-then-d-eq0 t c =
       size_le_n = omega arith;
     }
 
-pub returns-in-Nowhere : goal.returns-in-Nowhere
-returns-in-Nowhere t c =
+pub returns-in-None : goal.returns-in-None
+returns-in-None t c =
     let a = c.args in
-    let h = c.holder_of-h in
     record {
-      by_index = λ m w rl ch some long. piece_none a.table.now a.row.0 a.p a.n h.result
-          (h.ensures.value (omega (arith, rl, w.links.few)) (w.links.room a.row.0 rl)) c.in-Nowhere.is some
-          long;
+      by_index = λ m w rl ch some long. piece_none a.table.now a.row.0 a.p a.n
+          (c.in-None.ensures.value (omega (arith, rl, w.links.few)) (w.links.room a.row.0 rl)) some long;
       size_le_n = omega arith;
     }
 
 pub returns-else-d-eq0 : goal.returns-else-d-eq0
 returns-else-d-eq0 t c =
     let a = c.args in
-    let h = c.holder_of-h in
-    let g = c.in-Extent in
+    let g = c.in-Some.field-0 in
     let s = c.size_at in
-    let l = c.lesser-here in
+    let l = c.min-here in
     let q = c.piece_at in
     record {
       by_index = λ m w rl ch some long. piece_made a.table.now a.rows.now m a.row.0 w rl a.d a.p a.n g.e
-          g.rest s.result c.offset_at.result l.result c.capped_sum-from.result
+          g.rest s.result c.offset_at.result l.result c.saturating_add-from.result
           (holder_at a.table.now (first_extent a.table.now a.row.0) (extents a.table.now a.row.0)
-          a.p g.e g.rest h.result (h.ensures.value (omega (arith, rl, w.links.few))
-          (w.links.room a.row.0 rl)) g.is) s.ensures c.offset_at.ensures l.ensures
-          c.capped_sum-from.ensures ch some (a.d - 1) q.result (omega (arith, c.if-d-eq0.false))
+          a.p g (c.in-Some.ensures.value (omega (arith, rl, w.links.few))
+          (w.links.room a.row.0 rl))) s.ensures c.offset_at.ensures l.ensures
+          c.saturating_add-from.ensures ch some (a.d - 1) q.result (omega (arith, c.if-d-eq0.false))
           (eq-eqb _ 2 (sym (c.held_word.ensures (omega (arith, rl, w.links.few))) ∙ c.if-held_word-ne2.false))
           (q.ensures.by_index m w);
-      size_le_n = omega (arith, l.ensures, q.ensures.size_le_n, (lesser_low a.n (s.result - g.rest)).0);
+      size_le_n = omega (arith, l.ensures, q.ensures.size_le_n);
     }

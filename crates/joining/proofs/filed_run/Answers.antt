@@ -12,4 +12,4 @@ returns-then-end-from c =
 pub returns : goal.returns
 returns c =
     let a = c.args in
-    c.lesser.ensures ∙ filed-some a.end a.from 16403 (omega (arith, c.if-end-from.false))
+    c.min.ensures ∙ filed-some a.end a.from 16403 (omega (arith, c.if-end-from.false))

@@ -9,9 +9,6 @@ use Rattle.linking.proofs.ByteLaws.{every-read}
 use Rattle.joining.proofs.HeldLaws.{held-made, held-filed}
 use Rattle.joining.proofs.is_held.Goals as goal
 
-pub returns-then-table-lt-WORDS : goal.returns-then-table-lt-WORDS
-returns-then-table-lt-WORDS c = λ m v long. absurd (omega (arith, c.if-table-lt-WORDS.true))
-
 pub returns-then-past-gt512 : goal.returns-then-past-gt512
 returns-then-past-gt512 c =
     let a = c.args in

@@ -12,4 +12,4 @@ returns-then-here-left c =
 pub returns : goal.returns
 returns c =
     let a = c.args in
-    c.lesser.ensures ∙ sym (pick_no _ _ (le-ltb a.here a.left c.if-here-left.false))
+    c.min.ensures ∙ sym (pick_no _ _ (le-ltb a.here a.left c.if-here-left.false))

@@ -1,6 +1,5 @@
 -- `joining::put_level` meets its contract. The loop's invariant: the rows passed that are of the level have their runs, and so have all
--- below it. The measure is what is left of the rows. Assumes nothing.
-use Prim.Native.Nat.{◌-◌, ◌≤◌}
+-- below it. Assumes nothing.
 use mathlib.Core.Path.{◌≡◌}
 use lib.ListN.{length}
 use Rattle.joining.proofs.RowLaws.{LevelRuns}
@@ -8,7 +7,4 @@ use Rattle.joining.proofs.put_level.Given as goal
 
 abbrev pub invariant-loop-r : goal.invariant-loop-r
 invariant-loop-r l =
-    (l.r ≤ l.n) × (length l.runs ≡ 512) × LevelRuns l.table l.rows l.end l.n l.level l.r l.links l.initial.runs l.runs
-
-abbrev pub decreases-loop-r : goal.decreases-loop-r
-decreases-loop-r l = l.n - l.r
+    (length l.runs ≡ 512) × LevelRuns l.table l.rows l.end l.n l.level l.r l.links l.initial.runs l.runs

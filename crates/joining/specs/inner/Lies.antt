@@ -8,7 +8,7 @@
 --   RunsTo, RunsAre          what stands for each extent: the run from its first byte on
 --   bytes_of t v s r p n      the n bytes of row r from p on, s being the head
 --   Sourced t v n            what 13, 30 and 14 make sure of, of n rows
-use Rattle.std.specs.Prelude.{ℕ, zero, suc, ◌+◌, ◌-◌, ◌≤◌, ◌<◌, ◌≡◌, List, [], ◌∷◌, ◌++◌, Bool, true, get_or, ltb}
+use Rattle.std.specs.Prelude.{ℕ, zero, suc, ◌+◌, ◌-◌, ◌≤◌, ◌<◌, ◌≡◌, List, [], ◌∷◌, ◌++◌, Bool, true, Option, Some, None, get_or, ltb}
 use Rattle.fields.specs.Choice.{pick}
 use Rattle.linking.specs.inner.Links.{
   first_extent,
@@ -24,14 +24,13 @@ use Rattle.linking.specs.inner.Links.{
   length_sum,
   LinksIn,
 }
-use Rattle.joining.specs.declared.Holder.{Holder}
-use Rattle.joining.specs.declared.Holder.TheVariants.{Extent, Nowhere}
+use Rattle.joining.specs.declared.Held.{Held}
 use Rattle.joining.specs.declared.Piece.{Piece}
 
 -- "joined": extents one after the other
-unfoldable pub holder_from : List ℕ → ℕ → ℕ → ℕ → Holder
-holder_from t e zero p = Nowhere
-holder_from t e (suc n) p = pick (ltb p (size_at t e)) (Extent e p) (holder_from t (suc e) n (p - size_at t e))
+unfoldable pub holder_from : List ℕ → ℕ → ℕ → ℕ → Option Held
+holder_from t e zero p = None
+holder_from t e (suc n) p = pick (ltb p (size_at t e)) (Some (record { e = e; rest = p })) (holder_from t (suc e) n (p - size_at t e))
 
 -- past every head
 abbrev pub nowhere : ℕ

@@ -1,6 +1,5 @@
--- `judging::first_unplaced` meets its contract. The loop's invariant: what is asked of the rows from here on decides. The measure is what
--- is left of them. Assumes nothing.
-use Prim.Native.Nat.{ℕ, ◌-◌, ◌≤◌}
+-- `judging::first_unplaced` meets its contract. The loop's invariant: what is asked of the rows from here on decides. Assumes nothing.
+use Prim.Native.Nat.{ℕ}
 use mathlib.Core.Path.{◌≡◌}
 use mathlib.Core.List.{List}
 use lib.ListN.{length}
@@ -13,8 +12,5 @@ use Rattle.judging.proofs.first_unplaced.Given as goal
 
 abbrev pub invariant-loop-k : goal.invariant-loop-k
 invariant-loop-k l =
-    (l.k ≤ l.n) × ((head : List ℕ) (f : File) → Early l.table head l.ends.total l.ends.idat f → NamedIn f l.rows → LinksAre l.table l.rows l.n l.links →
-    l.n ≡ length f.items → places_from l.ends.total head f 0 ≡ places_from l.ends.total head f l.k)
-
-abbrev pub decreases-loop-k : goal.decreases-loop-k
-decreases-loop-k l = l.n - l.k
+    (head : List ℕ) (f : File) → Early l.table head l.ends.total l.ends.idat f → NamedIn f l.rows → LinksAre l.table l.rows l.n l.links →
+    l.n ≡ length f.items → places_from l.ends.total head f 0 ≡ places_from l.ends.total head f l.k

@@ -26,13 +26,13 @@ returns-then-f-eq30 c =
       table_unchanged = c.judge_linked.ensures.table_unchanged;
     }
 
-pub returns-in-Good : goal.returns-in-Good
-returns-in-Good c =
+pub returns-in-Ok : goal.returns-in-Ok
+returns-in-Ok c =
     record {
       judged_by = λ f x w n. let v = read_here _ _ x _ _ f w in
           let r = rowed_resolved _ c.args.rows.now _ _ f v c.requires.1 in
           let primary = sym (c.if-not-good_primary.false) ∙ c.good_primary.ensures _ _ f v in
-          let good = sym (c.first_fault-p.ensures f (early _ _ x _ _ f w)) ∙ c.in-Good.is in
+          let good = sym (c.first_fault.ensures f (early _ _ x _ _ f w)) ∙ c.in-Ok.is in
           let kept = plain-good _ _ f good in
           let k = followed _ _ x _ _ f w _ (few _ _ c.well_formed.1.0) (placed-all _ _ f (told-good _ kept)) c.requires.2 n in
           primary-on _ _ x _ _ f w primary _ _ (places_kept _ _ x _ _ f w kept _ _ (c.judge_placed.ensures.rest_by f x w k r
@@ -46,6 +46,6 @@ returns-else-f-eq30 c =
       judged_by = λ f x w n. let v = read_here _ _ x _ _ f w in
           let primary = sym (c.if-not-good_primary.false) ∙ c.good_primary.ensures _ _ f v in
           primary-on _ _ x _ _ f w primary _ _ (places_refused _ _ x _ _ f w _ _ (plain_off _ _ f _
-          (sym (c.first_fault-p.ensures f (early _ _ x _ _ f w)) ∙ c.in-Refused.is) c.if-f-eq30.false));
+          (sym (c.first_fault.ensures f (early _ _ x _ _ f w)) ∙ c.in-Err.is) c.if-f-eq30.false));
       table_unchanged = refl;
     }

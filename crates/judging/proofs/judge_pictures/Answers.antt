@@ -1,7 +1,7 @@
 -- `judging::judge_pictures` meets its contract. Assumes nothing.
 use mathlib.Core.Path.{sym, ap, ◌∙◌}
 use Rattle.judging.specs.inner.Order.{pictures_judged, told_judged}
-use Rattle.judging.proofs.JudgedLaws.{told_off, told-on, pictures_shallow}
+use Rattle.judging.proofs.JudgedLaws.{handed, told_off, told-on, pictures_shallow}
 use Rattle.judging.proofs.judge_pictures.Goals as goal
 
 pub returns-then-deepest-le16 : goal.returns-then-deepest-le16
@@ -9,20 +9,22 @@ returns-then-deepest-le16 c =
     λ f d. c.judge_sizes.ensures _ f d ∙ ap told_judged
     (sym (pictures_shallow _ _ f d _ c.deepest_of-deepest.ensures c.if-deepest-le16.true))
 
-pub returns-in-Refused : goal.returns-in-Refused
+pub returns-in_err-judge_itself : goal.returns-in_err-judge_itself
 unfolding pictures_judged
-returns-in-Refused c =
-    λ f d. told_off _ _ _ (sym (c.judge_itself-i.ensures f d) ∙ c.in-Refused.is)
+returns-in_err-judge_itself c =
+    let g = handed c.from_residual.result _ c.from_residual.ensures.1 in
+    λ f d. g ∙ told_off _ _ _ (sym (c.in_err-judge_itself.ensures f d))
 
-pub returns-in-Refused-d : goal.returns-in-Refused-d
+pub returns-in_err-first_fault : goal.returns-in_err-first_fault
 unfolding pictures_judged
-returns-in-Refused-d c =
-    λ f d. told_off _ _ _ (sym (c.first_fault-d.ensures f d) ∙ c.in-Refused-d.is) ∙
-    ap told_judged (sym (told-on _ _ (sym (c.judge_itself-i.ensures f d) ∙ c.in-Good.is)))
+returns-in_err-first_fault c =
+    let g = handed c.from_residual-in_err-first_fault.result _ c.from_residual-in_err-first_fault.ensures.1 in
+    λ f d. g ∙ told_off _ _ _ (sym (c.in_err-first_fault.ensures f d))
+    ∙ ap told_judged (sym (told-on _ _ (sym (c.in_ok-judge_itself.ensures f d))))
 
-pub returns-in-Good-d : goal.returns-in-Good-d
+pub returns : goal.returns
 unfolding pictures_judged
-returns-in-Good-d c =
-    λ f d. c.judge_sizes-in-Good-d.ensures _ f d ∙ ap told_judged
-    (sym (told-on _ _ (sym (c.first_fault-d.ensures f d) ∙ c.in-Good-d.is))) ∙
-    ap told_judged (sym (told-on _ _ (sym (c.judge_itself-i.ensures f d) ∙ c.in-Good.is)))
+returns c =
+    λ f d. c.judge_sizes-2.ensures _ f d
+    ∙ ap told_judged (sym (told-on _ _ (sym (c.in_ok-first_fault.ensures f d))))
+    ∙ ap told_judged (sym (told-on _ _ (sym (c.in_ok-judge_itself.ensures f d))))

@@ -1,6 +1,6 @@
 -- `judging::judge_sizes` meets its contract. The loop's invariant: of the rows passed, the one to name is the first
--- misfit of the least depth. The measure is what is left of them. Assumes nothing.
-use Prim.Native.Nat.{◌-◌, ◌<◌}
+-- misfit of the least depth. Assumes nothing.
+use Prim.Native.Nat.{◌<◌}
 use native.Mathlib.Omega.{arith}
 use mathlib.Core.Path.{◌≡◌, sym, ◌∙◌}
 use lib.ListN.{length}
@@ -8,7 +8,13 @@ use Rattle.fields.proofs.TestLaws.{untrue}
 use Rattle.rules.specs.Derivations.{scene_of}
 use Rattle.judging.proofs.SceneLaws.{deep_word}
 use Rattle.judging.proofs.MisfitLaws.{least_begun, least-same, least_other, least_more, least-none, least-named, least-row}
-use Rattle.judging.proofs.judge_sizes.Goals.{then-d-depth+then-is_misfit, then-d-depth+else-is_misfit, else-d-depth}
+use
+    Rattle.judging.proofs.judge_sizes.Goals.{
+      then-d-depth+then-is_misfit,
+      else-d-depth,
+      else-d-depth-via-then-d-depth+else-is_misfit,
+      else-d-depth-via-else-d-depth,
+    }
 use Rattle.judging.proofs.judge_sizes.Goals as goal
 
 -- no table that is a file's is shorter, or has more items
@@ -27,34 +33,33 @@ returns-then-n-gt256 c =
 
 pub loop-k-init : goal.loop-k-init
 loop-k-init c =
-    (omega arith, λ total f d. least_begun (scene_of total c.args.head.now f) f)
+    λ total f d. least_begun (scene_of total c.args.head.now f) f
 
 pub loop-k-preserved : goal.loop-k-preserved
 loop-k-preserved c =
     let a = c.args in
-    let q = c.loop-k in (
-      omega arith,
-      λ total f d. let s = scene_of total a.head.now f in
-          let l = q.invariant.1 total f d in
-          let h : q.k < length f.items = omega (arith, d.followed.view.items, c.item_count-n.ensures) in
-          let e = deep_word total a.head.now f d q.k h c.record_word-d.result
-          (c.record_word-d.ensures (omega (arith, d.followed.view.bounded.few-items))) in
-          elim c.if-d-depth.branch [
-            | then-d-depth+then-is_misfit z ↦ least-same s f _ _ _ _ _ z.depth-is z.named-is
-                (least_more s f q.k q.depth q.named l c.record_word-d.result e z.if-d-depth.true
-                (sym (z.is_misfit.ensures total f d h) ∙ z.if-is_misfit.true))
-            | then-d-depth+else-is_misfit z ↦ least-same s f _ _ _ _ _ z.depth-is z.named-is
-                (least_other s f q.k q.depth q.named l (λ m. untrue
-                (sym z.if-is_misfit.false ∙ z.is_misfit.ensures total f d h ∙ m)))
-            | else-d-depth z ↦ least-same s f _ _ _ _ _ z.depth-is z.named-is
-                (least_other s f q.k q.depth q.named l (λ m. omega (arith, z.if-d-depth.false, e)))
-          ],
-    )
+    let q = c.loop-k in
+    λ total f d.
+    let s = scene_of total a.head.now f in
+    let l = q.invariant total f d in
+    let h : q.k < length f.items = omega (arith, d.followed.view.items, c.item_count-n.ensures) in
+    let e = deep_word total a.head.now f d q.k h c.record_word-d.result
+    (c.record_word-d.ensures (omega (arith, d.followed.view.bounded.few-items))) in
+    elim c.if-d-depth.branch [
+      | then-d-depth+then-is_misfit z ↦ least-same s f _ _ _ _ _ z.depth-is z.named-is
+          (least_more s f q.k q.depth q.named l c.record_word-d.result e z.if-d-depth.true
+          (sym (z.is_misfit.ensures total f d h) ∙ z.if-is_misfit.true))
+      | else-d-depth z ↦ least-same s f _ _ _ _ _ z.depth-is z.named-is
+          (least_other s f q.k q.depth q.named l (elim z.else-d-depth.branch [
+            | else-d-depth-via-then-d-depth+else-is_misfit o ↦ λ m. untrue (sym o.if-is_misfit.false ∙ o.is_misfit.ensures total f d h ∙ m)
+            | else-d-depth-via-else-d-depth o ↦ λ m. omega (arith, o.if-d-depth.false, e)
+          ]))
+    ]
 
 pub returns-then-depth-eq17 : goal.returns-then-depth-eq17
 returns-then-depth-eq17 c =
     let q = c.loop-k in
-    λ total f d. least-none (scene_of total c.args.head.now f) f q.k q.depth q.named (q.invariant.1 total f d)
+    λ total f d. least-none (scene_of total c.args.head.now f) f q.k q.depth q.named (q.invariant total f d)
     (omega (arith, d.followed.view.items, c.item_count-n.ensures)) (omega (arith, c.if-depth-eq17.true))
 
 pub returns : goal.returns
@@ -62,7 +67,7 @@ returns c =
     let q = c.loop-k in
     λ total f d.
     let s = scene_of total c.args.head.now f in
-    let l = q.invariant.1 total f d in
+    let l = q.invariant total f d in
     let all : q.k ≡ length f.items = omega (arith, d.followed.view.items, c.item_count-n.ensures) in
     let one : q.depth < 17 = omega (arith, l.shallow, c.if-depth-eq17.false) in
     let h = least-row s f q.k q.depth q.named l all one in

@@ -6,8 +6,10 @@
 --   NoneDeeper t w                no record of the table t has a depth over w
 --   told_judged m                  the code's value
 --   RestBy .., PlacesBy .., JudgedBy ..    what judging from 15, from 13 and from 12 on answers and leaves in the table
-use Rattle.std.specs.Prelude.{ℕ, ◌+◌, ◌≤◌, ◌<◌, ◌≡◌, List, ◌++◌, length, get_or}
-use Rattle.boxes.specs.Answer.{Answer, ok, refuse, ◌>>◌}
+use Rattle.std.specs.Prelude.{ℕ, ◌+◌, ◌≤◌, ◌<◌, ◌≡◌, List, ◌++◌, length, get_or, Result}
+use Rattle.boxes.specs.Answer.{Answer, ok, ◌>>◌}
+use Rattle.boxes.specs.Told.{told}
+use Rattle.boxes.specs.declared.Refusal.{Refusal}
 use Rattle.contents.specs.Iinf.{Item}
 use Rattle.contents.specs.File.{File, read_file}
 use Rattle.rules.specs.Places.{places_in}
@@ -21,8 +23,6 @@ use Rattle.derived.specs.inner.Told.{Resolved, Followed, RunsFor}
 use Rattle.sizing.specs.inner.Drawn.{Drawn}
 use Rattle.judging.specs.declared.Rule.{Rule}
 use Rattle.judging.specs.declared.Rule.TheVariants.{Placed, Derived, Itself, Deep}
-use Rattle.judging.specs.declared.Judged.{Judged}
-use Rattle.judging.specs.declared.Judged.TheVariants.{Good, Refused}
 
 -- Placed: where it gives 30 the rule itself is asked, of all items
 unfoldable pub rule_by : Rule → ℕ → List ℕ → File → ℕ → Item → Answer (Unit {0})
@@ -59,23 +59,22 @@ Ready Deep t rows runs head total idat f = Drawn t rows head total f
 abbrev pub NoneDeeper : List ℕ → ℕ → Type 0
 NoneDeeper t w = (r : ℕ) → r < get_or t 0 0 → r < 256 → record_word t r 14 ≤ w
 
-unfoldable pub told_judged : Answer (Unit {0}) → Judged
-told_judged (ok u) = Good
-told_judged (refuse n p) = Refused (record { number = n; place = p })
+abbrev pub told_judged : Answer (Unit {0}) → Result (Unit {0}) Refusal
+told_judged = told (λ (u : Unit {0}). u)
 
 pub record Read (t head : List ℕ) (total idat : ℕ) (f : File) (x : List ℕ) : Type 0 where
   pub read : read_file total head ≡ ok f
   pub is : t ≡ raw_of (head_words total f) (places_in total head) f ++ x
   pub ends : (places_in total head).idat + length f.idat ≡ idat
 
-pub record RestBy (head : List ℕ) (total : ℕ) (f : File) (x : List ℕ) (j : Judged) (u : List ℕ) : Type 0 where
+pub record RestBy (head : List ℕ) (total : ℕ) (f : File) (x : List ℕ) (j : Result (Unit {0}) Refusal) (u : List ℕ) : Type 0 where
   pub answer : j ≡ told_judged (rest_judged total head f)
   pub left : rest_judged total head f ≡ ok tt → u ≡ file_words total head f ++ x
 
-pub record PlacesBy (head : List ℕ) (total : ℕ) (f : File) (x : List ℕ) (j : Judged) (u : List ℕ) : Type 0 where
+pub record PlacesBy (head : List ℕ) (total : ℕ) (f : File) (x : List ℕ) (j : Result (Unit {0}) Refusal) (u : List ℕ) : Type 0 where
   pub answer : j ≡ told_judged (places_judged total head f >> rest_judged total head f)
   pub left : (places_judged total head f >> rest_judged total head f) ≡ ok tt → u ≡ file_words total head f ++ x
 
-pub record JudgedBy (head : List ℕ) (total : ℕ) (f : File) (x : List ℕ) (j : Judged) (u : List ℕ) : Type 0 where
+pub record JudgedBy (head : List ℕ) (total : ℕ) (f : File) (x : List ℕ) (j : Result (Unit {0}) Refusal) (u : List ℕ) : Type 0 where
   pub answer : j ≡ told_judged (judged total head f)
   pub left : judged total head f ≡ ok tt → u ≡ file_words total head f ++ x

@@ -1,6 +1,5 @@
--- `linking::all_below` meets its contract. The loop's invariant: the extents passed name rows of a level below k. The
--- measure is what is left of them. Assumes nothing.
-use Prim.Native.Nat.{ℕ, ◌-◌, ◌≤◌, ◌<◌}
+-- `linking::all_below` meets its contract. The loop's invariant: the extents passed name rows of a level below k. Assumes nothing.
+use Prim.Native.Nat.{ℕ, ◌≤◌, ◌<◌}
 use mathlib.Core.Path.{◌≡◌}
 use mathlib.Core.Bool.{true}
 use Rattle.linking.specs.inner.Bytes.{names_below}
@@ -8,7 +7,4 @@ use Rattle.linking.proofs.all_below.Given as goal
 
 abbrev pub invariant-loop-e : goal.invariant-loop-e
 invariant-loop-e l =
-    (l.first ≤ l.e) × (l.e ≤ l.end) × ((i : ℕ) → l.first ≤ i → i < l.e → names_below l.rows l.links l.k i ≡ true)
-
-abbrev pub decreases-loop-e : goal.decreases-loop-e
-decreases-loop-e l = l.end - l.e
+    (i : ℕ) → l.first ≤ i → i < l.e → names_below l.rows l.links l.k i ≡ true

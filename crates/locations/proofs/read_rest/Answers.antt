@@ -1,13 +1,6 @@
 -- `locations::read_rest` meets its contract: one test of the length stands for four fields. Assumes nothing.
-use Rattle.locations.proofs.EntryLaws.{method-most, size-most, rest-short, rest-many, rest-is}
-use native.Mathlib.Omega.{arith}
+use Rattle.locations.proofs.EntryLaws.{rest-short, rest-many, rest-is}
 use Rattle.locations.proofs.read_rest.Goals as goal
-
-pub overflow_add-m : goal.overflow_add-m
-overflow_add-m c = let z = c.requires.1 in omega (arith, method-most _ z.method, size-most _ z.base)
-
-pub overflow_add-m-2 : goal.overflow_add-m-2
-overflow_add-m-2 c = let z = c.requires.1 in omega (arith, method-most _ z.method, size-most _ z.base)
 
 pub returns-then-s-at : goal.returns-then-s-at
 returns-then-s-at c =

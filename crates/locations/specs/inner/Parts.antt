@@ -30,6 +30,9 @@ use Rattle.std.specs.Prelude.{
   length,
   get_or,
   drop,
+  Result,
+  Ok,
+  Err,
   leb,
   eqb,
 }
@@ -38,6 +41,7 @@ use Rattle.fields.specs.Choice.{pick}
 use Rattle.fields.specs.Field.{be_at}
 use Rattle.fields.specs.Lists.{member}
 use Rattle.boxes.specs.Answer.{Answer, ok, refuse}
+use Rattle.boxes.specs.declared.Refusal.{Refusal}
 use Rattle.forms.specs.Form.{Form, Got, got, give, demand, field, many, ◌>>=◌, ◌>>◌}
 use Rattle.contents.specs.Iloc.{Extent, Location, located_in, extents_in, field_size, index_of, extent_form}
 use Rattle.contents.specs.File.{File}
@@ -50,15 +54,10 @@ use Rattle.records.specs.inner.Named.{mark_of}
 use Rattle.locations.specs.declared.Widths.{Widths}
 use Rattle.locations.specs.declared.Rest.{Rest}
 use Rattle.locations.specs.declared.Sizes.{Sizes}
-use Rattle.locations.specs.declared.Sizes.TheVariants as sizes
-use Rattle.locations.specs.declared.RowRead.{RowRead}
-use Rattle.locations.specs.declared.RowRead.TheVariants as row
 use Rattle.locations.specs.declared.RestRead.{RestRead}
-use Rattle.locations.specs.declared.RestRead.TheVariants as rest
 use Rattle.locations.specs.declared.EntryRead.{EntryRead}
-use Rattle.locations.specs.declared.EntryRead.TheVariants as entry
 use Rattle.locations.specs.declared.EntryPut.{EntryPut}
-use Rattle.locations.specs.declared.EntryPut.TheVariants as put
+use Rattle.table.specs.declared.ItemRow.{ItemRow}
 
 -- what stands before the entries
 abbrev pub widths_by : ℕ → ℕ → ℕ → Widths
@@ -108,9 +107,9 @@ pub record SizesHere (a : Answer (Got Front)) (s : List ℕ) (w : Widths) (n : �
   pub sized : GoodWidths w
   pub read : a ≡ got (record { widths = w; count = n }) (drop (6 + w.id) s)
 
-abbrev pub SizesAre : Answer (Got Front) → List ℕ → Sizes → Type 0
-SizesAre a s (sizes.Is w n) = SizesHere a s w n
-SizesAre a s (sizes.Refused f) = a ≡ refuse f.number f.place
+abbrev pub SizesAre : Answer (Got Front) → List ℕ → Result Sizes Refusal → Type 0
+SizesAre a s (Ok z) = SizesHere a s z.widths z.count
+SizesAre a s (Err f) = a ≡ refuse f.number f.place
 
 -- an entry
 unfoldable pub entry_by : List ℕ → Widths → List Location → Form Location
@@ -192,9 +191,9 @@ pub record RowHere (t : List ℕ) (n id r : ℕ) : Type 0 where
   pub same : id_at t r ≡ id
   pub new : (used : ℕ) (ls : List Location) → Located t n used ls → member id (located_in ls) ≡ false
 
-abbrev pub RowAre : List ℕ → ℕ → ℕ → ℕ → RowRead → Type 0
-RowAre t n id place (row.Is r) = RowHere t n id r.0
-RowAre t n id place (row.Refused f) =
+abbrev pub RowAre : List ℕ → ℕ → ℕ → ℕ → Result ItemRow Refusal → Type 0
+RowAre t n id place (Ok r) = RowHere t n id r.0
+RowAre t n id place (Err f) =
     (used : ℕ) (ls : List Location) → Located t n used ls → (r : List ℕ) → (new_form (ids_in t n) ls id).read place r ≡ refuse f.number f.place
 
 -- an entry behind its ID
@@ -203,9 +202,9 @@ pub record RestHere (w : Widths) (used place : ℕ) (s : List ℕ) (at : ℕ) (r
   pub few : used + r.extents ≤ 512
   pub read : (rest_form w used).read place (drop at s) ≡ got r (drop end s)
 
-abbrev pub RestAre : Widths → ℕ → ℕ → List ℕ → ℕ → RestRead → Type 0
-RestAre w used place s at (rest.Is r end) = RestHere w used place s at r end
-RestAre w used place s at (rest.Refused f) = (rest_form w used).read place (drop at s) ≡ refuse f.number f.place
+abbrev pub RestAre : Widths → ℕ → ℕ → List ℕ → ℕ → Result RestRead Refusal → Type 0
+RestAre w used place s at (Ok x) = RestHere w used place s at x.rest x.at
+RestAre w used place s at (Err f) = (rest_form w used).read place (drop at s) ≡ refuse f.number f.place
 
 -- an entry up to its extents
 pub record EntryHere (t : List ℕ) (n : ℕ) (w : Widths) (used place : ℕ) (s : List ℕ) (at r : ℕ) (x : Rest) (end : ℕ) : Type 0 where
@@ -216,9 +215,9 @@ pub record EntryHere (t : List ℕ) (n : ℕ) (w : Widths) (used place : ℕ) (s
   pub read : (ls : List Location) → Located t n used ls →
       (lead_form (ids_in t n) w ls).read place (drop at s) ≡ got (record { id = id_at t r; rest = x }) (drop end s)
 
-abbrev pub EntryAre : List ℕ → ℕ → Widths → ℕ → ℕ → List ℕ → ℕ → EntryRead → Type 0
-EntryAre t n w used place s at (entry.Is r x end) = EntryHere t n w used place s at r.0 x end
-EntryAre t n w used place s at (entry.Refused f) =
+abbrev pub EntryAre : List ℕ → ℕ → Widths → ℕ → ℕ → List ℕ → ℕ → Result EntryRead Refusal → Type 0
+EntryAre t n w used place s at (Ok e) = EntryHere t n w used place s at e.row.0 e.rest e.at
+EntryAre t n w used place s at (Err f) =
     (ls : List Location) → Located t n used ls → (lead_form (ids_in t n) w ls).read place (drop at s) ≡ refuse f.number f.place
 
 -- its extents and its place, into the table t, which is then u
@@ -229,17 +228,17 @@ pub record StoredHere (w : Widths) (s : List ℕ) (at : ℕ) (t u : List ℕ) (r
   pub room : end ≤ length s
   pub stored : u ≡ stored_at w s at t r x used idat
 
-abbrev pub StoredAre : Widths → List ℕ → ℕ → ℕ → List ℕ → List ℕ → ℕ → Rest → ℕ → ℕ → EntryPut → Type 0
-StoredAre w s at place t u r x used idat (put.Is end k q) = StoredHere w s at t u r x used idat end k q.0
-StoredAre w s at place t u r x used idat (put.Refused f) = (u ≡ t) × (f.number ≡ 8) × (f.place ≡ place) × (length s < at + x.extents * each w)
+abbrev pub StoredAre : Widths → List ℕ → ℕ → ℕ → List ℕ → List ℕ → ℕ → Rest → ℕ → ℕ → Result EntryPut Refusal → Type 0
+StoredAre w s at place t u r x used idat (Ok e) = StoredHere w s at t u r x used idat e.end e.extents e.row.0
+StoredAre w s at place t u r x used idat (Err f) = (u ≡ t) × (f.number ≡ 8) × (f.place ≡ place) × (length s < at + x.extents * each w)
 
 -- the marks of the extents es of an entry, of method 2 or not, in v, which is then y
 abbrev pub marked_at : ℕ → Bool → List Extent → List ℕ → List ℕ
 marked_at used made es v = sets v (2304 + used) (pick made (map (λ (e : Extent). mark_of e.index) es) [])
 
-abbrev pub MarkedAre : ℕ → Bool → List Extent → List ℕ → List ℕ → EntryPut → Type 0
-MarkedAre used made es v y (put.Is end k q) = y ≡ marked_at used made es v
-MarkedAre used made es v y (put.Refused f) = y ≡ v
+abbrev pub MarkedAre : ℕ → Bool → List Extent → List ℕ → List ℕ → Result EntryPut Refusal → Type 0
+MarkedAre used made es v y (Ok e) = y ≡ marked_at used made es v
+MarkedAre used made es v y (Err f) = y ≡ v
 
 -- an entry, into the table t, which is then u, and its marks into v, which is then y
 pub record PutHere (t u v y : List ℕ) (n : ℕ) (w : Widths) (used place : ℕ) (s : List ℕ) (at idat end k r : ℕ) : Type 0 where
@@ -258,9 +257,9 @@ pub record PutHere (t u v y : List ℕ) (n : ℕ) (w : Widths) (used place : ℕ
   pub new : (ls : List Location) → Located t n used ls → member location.id (located_in ls) ≡ false
   pub read : (ls : List Location) → Located t n used ls → (entry_by (ids_in t n) w ls).read place (drop at s) ≡ got location (drop end s)
 
-abbrev pub PutAre : List ℕ → List ℕ → List ℕ → List ℕ → ℕ → Widths → ℕ → ℕ → List ℕ → ℕ → ℕ → EntryPut → Type 0
-PutAre t u v y n w used place s at idat (put.Is end k r) = PutHere t u v y n w used place s at idat end k r.0
-PutAre t u v y n w used place s at idat (put.Refused f) =
+abbrev pub PutAre : List ℕ → List ℕ → List ℕ → List ℕ → ℕ → Widths → ℕ → ℕ → List ℕ → ℕ → ℕ → Result EntryPut Refusal → Type 0
+PutAre t u v y n w used place s at idat (Ok e) = PutHere t u v y n w used place s at idat e.end e.extents e.row.0
+PutAre t u v y n w used place s at idat (Err f) =
     (u ≡ t) × (y ≡ v) × ((ls : List Location) → Located t n used ls → (entry_by (ids_in t n) w ls).read place (drop at s) ≡ refuse f.number f.place)
 
 -- all entries, a being what their form answers

@@ -1,24 +1,16 @@
--- What reading an `iloc` answers and leaves.
---   told_locations     the code's value for each answer of its form
+-- What reading an `iloc` builds on and leaves.
 --   Unplaced t n      what the code builds on: the n items of the table t have n IDs, and none has an entry yet
 --   LocationsLeft     the table afterwards: where entries are read into the table of a file of n items that has none yet, theirs
 use Rattle.std.specs.Prelude.{ℕ, ◌+◌, ◌*◌, ◌<◌, ◌≡◌, List, [], ◌++◌, get_or}
-use Rattle.boxes.specs.Answer.{Answer, ok, refuse}
+use Rattle.boxes.specs.Answer.{ok}
 use Rattle.forms.specs.Form.{whole}
 use Rattle.contents.specs.Iinf.{ids_of}
-use Rattle.contents.specs.Iloc.{Location, extents_in, iloc_form}
+use Rattle.contents.specs.Iloc.{Location, iloc_form}
 use Rattle.contents.specs.File.{File}
 use Rattle.rules.specs.Places.{Places}
 use Rattle.records.specs.inner.Raw.{raw_of}
 use Rattle.records.specs.inner.Rows.{Distinct, ids_in}
 use Rattle.records.specs.inner.Stage.{Kept, Ready, with_locations}
-use Rattle.locations.specs.declared.LocationsRead.{LocationsRead}
-use Rattle.locations.specs.declared.LocationsRead.TheVariants as read
-
--- Done: how many extents there are
-unfoldable pub told_locations : Answer (List Location) → LocationsRead
-told_locations (ok ls) = read.Done (extents_in ls)
-told_locations (refuse n p) = read.Refused (record { number = n; place = p })
 
 pub record Unplaced (t : List ℕ) (n : ℕ) : Type 0 where
   pub distinct : Distinct (ids_in t n)

@@ -1,5 +1,4 @@
--- `marks::all_grounded` meets its contract. The loop's invariant: what is marked is grounded. The measure: the words
--- that are 0, and 1 while there is more. Assumes nothing.
+-- `marks::all_grounded` meets its contract. Assumes nothing.
 use mathlib.Core.Path.{refl, sym, ◌∙◌}
 use Rattle.marks.proofs.MarkLaws.{grown-less, zeros_bits}
 use Rattle.marks.proofs.GroundLaws.{grounded_none, grounded_all}
@@ -7,13 +6,6 @@ use Rattle.marks.proofs.all_grounded.Goals as goal
 
 pub loop-more-init : goal.loop-more-init
 loop-more-init c = (refl, zeros_bits, grounded_none _ _ _)
-
-pub slice_bounds-ground-end : goal.slice_bounds-ground-end
-slice_bounds-ground-end c = sym c.loop-more.invariant.0
-
-pub ground-more-requires : goal.ground-more-requires
-ground-more-requires c =
-    (c.requires, c.loop-more.invariant.1)
 
 pub loop-more-smaller : goal.loop-more-smaller
 loop-more-smaller c =
@@ -24,9 +16,6 @@ pub loop-more-preserved : goal.loop-more-preserved
 loop-more-preserved c =
     let q = c.loop-more in
     (c.ground-more.auto.marks ∙ q.invariant.0, c.ground-more.ensures.grown.bits, c.ground-more.ensures.kept _ q.invariant.2)
-
-pub slice_bounds-all_marked-end : goal.slice_bounds-all_marked-end
-slice_bounds-all_marked-end c = sym c.loop-more.invariant.0
 
 pub returns : goal.returns
 returns c =

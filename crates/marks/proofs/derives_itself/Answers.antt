@@ -5,9 +5,6 @@ use Rattle.marks.specs.inner.Marks.{IsInput}
 use Rattle.marks.proofs.MarkLaws.{zeros_bits, zeros_room, listing_first, found_all, itself_found}
 use Rattle.marks.proofs.derives_itself.Goals as goal
 
-pub returns-then-n-r : goal.returns-then-n-r
-returns-then-n-r c = λ s l i h. absurd (omega arith)
-
 pub reach-end-requires : goal.reach-end-requires
 reach-end-requires c =
     (omega (arith, c.requires, c.if-n-r.false), zeros_bits, zeros_room)

@@ -9,10 +9,5 @@ returns-then-rests_on_marked c =
     ground_marked a.table.now a.rows.now a.row.0 a.marks.now c.mark.new.marks c.mark.result
     (sym c.word.ensures ∙ c.if-word-eq0.true) (c.rests_on_marked.ensures c.if-rests_on_marked.true) c.mark.ensures
 
-pub returns-else-rests_on_marked : goal.returns-else-rests_on_marked
-returns-else-rests_on_marked c =
-    ground_same _ _ _ c.requires.1
-
-pub returns-else-word-eq0 : goal.returns-else-word-eq0
-returns-else-word-eq0 c =
-    ground_same _ _ _ c.requires.1
+pub returns : goal.returns
+returns c = ground_same _ _ _ c.requires.1

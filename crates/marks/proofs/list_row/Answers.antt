@@ -3,14 +3,6 @@ use native.Mathlib.Omega.{arith}
 use Rattle.marks.proofs.MarkLaws.{reached_idle, reached_set}
 use Rattle.marks.proofs.list_row.Goals as goal
 
-pub bounds-list-end : goal.bounds-list-end
-bounds-list-end c =
-    omega (arith, c.mark.ensures.grown.more c.if-mark.true, c.requires.1)
-
-pub overflow_add-result : goal.overflow_add-result
-overflow_add-result c =
-    omega (arith, c.mark.ensures.grown.more c.if-mark.true, c.requires.1)
-
 pub returns-then-mark : goal.returns-then-mark
 returns-then-mark c =
     let a = c.args in

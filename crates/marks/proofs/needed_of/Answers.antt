@@ -6,9 +6,6 @@ use lib.ListN.{replicate}
 use Rattle.marks.proofs.MarkLaws.{zeros_bits, zeros_room, listing_first, found_all, needed_found}
 use Rattle.marks.proofs.needed_of.Goals as goal
 
-pub returns-then-n-r : goal.returns-then-n-r
-returns-then-n-r c = λ s l i h. absurd (omega arith)
-
 pub list_row-end-requires : goal.list_row-end-requires
 list_row-end-requires c = (zeros_bits, zeros_room)
 

@@ -1,4 +1,4 @@
--- `marks::reach` meets its contract. The loop's invariant: the inputs passed are marked and listed. The measure is what is left of them. Assumes nothing.
+-- `marks::reach` meets its contract. Assumes nothing.
 use Prim.Native.Nat.{◌+◌, ◌-◌}
 use native.Mathlib.Omega.{arith}
 use mathlib.Core.Path.{◌≡◌, refl, ◌∙◌}
@@ -6,28 +6,15 @@ use lib.ListN.{get_or}
 use Rattle.marks.proofs.MarkLaws.{reached_none, reached_more, reached_inputs}
 use Rattle.marks.proofs.reach.Goals as goal
 
-pub loop-j-init : goal.loop-j-init
-loop-j-init c =
-    (omega arith, refl, refl, reached_none _ _ _ _ c.requires.1)
-
-pub list_row-end-requires : goal.list_row-end-requires
-list_row-end-requires c =
-    let l = c.loop-j in
-    (l.invariant.3.bits, omega (arith, l.invariant.3.room, l.invariant.2, c.requires.2))
-
-pub loop-j-smaller : goal.loop-j-smaller
-loop-j-smaller c = omega arith
-
 pub loop-j-preserved : goal.loop-j-preserved
 loop-j-preserved c =
     let a = c.args in
     let q = c.loop-j in (
-      omega arith,
-      c.list_row-end.auto.marks ∙ q.invariant.1,
-      c.list_row-end.auto.list ∙ q.invariant.2,
-      reached_more (λ i. get_or a.rows.now (c.word-first.result + i) 0) q.j c.word-x.result a.marks.now q.marks
-          c.list_row-end.new.marks a.list.now q.list c.list_row-end.new.list a.start q.end c.list_row-end.result q.invariant.1 c.word-x.ensures
-          q.invariant.3 c.list_row-end.ensures,
+      c.list_row-end.auto.marks ∙ q.invariant.0,
+      c.list_row-end.auto.list ∙ q.invariant.1,
+      reached_more (λ i. get_or a.rows.now (c.word-first.result + i) 0) q.j c.word.result a.marks.now q.marks
+          c.list_row-end.new.marks a.list.now q.list c.list_row-end.new.list a.start q.end c.list_row-end.result q.invariant.0 c.word.ensures
+          q.invariant.2 c.list_row-end.ensures,
     )
 
 pub returns : goal.returns
@@ -36,4 +23,4 @@ returns c =
     let q = c.loop-j in
     let e : q.j ≡ c.word-k.result = omega arith in
     reached_inputs a.table.now a.rows.now a.row.0 q.j c.word-first.result a.marks.now q.marks
-    a.list.now q.list a.start q.end (e ∙ c.word-k.ensures) c.word-first.ensures q.invariant.3
+    a.list.now q.list a.start q.end (e ∙ c.word-k.ensures) c.word-first.ensures q.invariant.2

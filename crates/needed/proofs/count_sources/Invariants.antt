@@ -6,7 +6,4 @@ use Rattle.needed.specs.inner.Marked.{marked_of}
 use Rattle.needed.proofs.count_sources.Given as goal
 
 abbrev pub invariant-loop-k : goal.invariant-loop-k
-invariant-loop-k l = (l.k ≤ l.n) × (l.count ≡ length (marked_of l.table l.marks l.k))
-
-abbrev pub decreases-loop-k : goal.decreases-loop-k
-decreases-loop-k l = l.n - l.k
+invariant-loop-k l = l.count ≡ length (marked_of l.table l.marks l.k)

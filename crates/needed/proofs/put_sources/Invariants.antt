@@ -5,7 +5,4 @@ use Rattle.needed.proofs.MarkedLaws.{Kept}
 use Rattle.needed.proofs.put_sources.Given as goal
 
 abbrev pub invariant-loop-k : goal.invariant-loop-k
-invariant-loop-k l = (l.k ≤ l.n) × Kept l.table l.marks l.initial.list l.k l.count l.list
-
-abbrev pub decreases-loop-k : goal.decreases-loop-k
-decreases-loop-k l = l.n - l.k
+invariant-loop-k l = Kept l.table l.marks l.initial.list l.k l.count l.list

@@ -3,8 +3,8 @@ use mathlib.Core.Path.{sym, ◌∙◌}
 use Rattle.out.proofs.OutLaws.{body_refused, body-told}
 use Rattle.out.proofs.bodied_numbers.Goals as goal
 
-pub returns-in-Refused : goal.returns-in-Refused
-returns-in-Refused c = λ m e. c.refused_numbers.ensures ∙ body_refused m _ (sym c.in-Refused.is ∙ e)
+pub returns-in-Err : goal.returns-in-Err
+returns-in-Err c = λ m e. c.refused_numbers.ensures ∙ body_refused m _ (sym c.in-Err.is ∙ e)
 
-pub returns-in-Is : goal.returns-in-Is
-returns-in-Is c = λ m e. body-told m _ (sym c.in-Is.is ∙ e)
+pub returns-in-Ok : goal.returns-in-Ok
+returns-in-Ok c = λ m e. body-told m _ (sym c.in-Ok.is ∙ e)

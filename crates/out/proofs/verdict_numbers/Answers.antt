@@ -3,8 +3,8 @@ use mathlib.Core.Path.{sym, ◌∙◌}
 use Rattle.out.proofs.OutLaws.{verdict-refused, verdict-accepted}
 use Rattle.out.proofs.verdict_numbers.Goals as goal
 
-pub returns-in-Refused : goal.returns-in-Refused
-returns-in-Refused c = λ m e. c.refused_numbers.ensures ∙ verdict-refused m _ (sym c.in-Refused.is ∙ e)
+pub returns-in-Err : goal.returns-in-Err
+returns-in-Err c = λ m e. c.refused_numbers.ensures ∙ verdict-refused m _ (sym c.in-Err.is ∙ e)
 
-pub returns-in-Accepted : goal.returns-in-Accepted
-returns-in-Accepted c = λ m e. verdict-accepted m _ _ (sym c.in-Accepted.is ∙ e)
+pub returns-in-Ok : goal.returns-in-Ok
+returns-in-Ok c = λ m e. verdict-accepted m _ (sym c.in-Ok.is ∙ e)

@@ -1,5 +1,5 @@
 -- `pictures::back_of` meets its contract. Assumes nothing.
-use Rattle.pictures.proofs.BackLaws.{undoes_stay, undoes_left, undoes_half, undoes_right, undoes_flip_x, undoes_flip_y, undoes_crop, undoes_misfit}
+use Rattle.pictures.proofs.BackLaws.{undoes_stay, undoes_left, undoes_half, undoes_right, undoes_flip_x, undoes_flip_y, undoes_crop}
 use Rattle.std.proofs.Common.{arith}
 use Rattle.pictures.proofs.back_of.Goals as goal
 
@@ -35,8 +35,4 @@ returns-in-FlipY c =
 pub returns-in-Crop : goal.returns-in-Crop
 returns-in-Crop c =
     let a = c.args in
-    undoes_crop a.t a.s a.p _ _ _ _ c.in-Crop.is (omega arith) (omega arith) _ _
-    c.wrapping_add_u32.ensures.value c.wrapping_add_u32-in-Crop.ensures.value
-
-pub returns-in-Misfit : goal.returns-in-Misfit
-returns-in-Misfit c = let a = c.args in undoes_misfit a.t a.s a.p c.in-Misfit.is _
+    undoes_crop a.t a.s a.p _ _ _ _ c.in-Crop.is (omega arith) (omega arith)

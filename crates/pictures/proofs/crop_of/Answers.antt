@@ -1,21 +1,17 @@
 -- `pictures::crop_of` meets its contract. Assumes nothing.
 use Rattle.pictures.proofs.TurnByLaws.{crop_off_x, crop_off_y, crop-on}
 use Rattle.pictures.specs.Clap.{crop_of}
-use Rattle.std.proofs.Common.{sym, ◌∙◌}
+use Rattle.std.proofs.Common.{sym}
 use Rattle.pictures.proofs.crop_of.Goals as goal
 
-pub returns-in-None : goal.returns-in-None
+pub returns-in_default : goal.returns-in_default
 unfolding crop_of
-returns-in-None c = sym (crop_off_x _ _ (sym c.axis_of-x.ensures ∙ c.in-None.is))
+returns-in_default c = sym (crop_off_x _ _ (sym c.in_default.ensures))
 
-pub returns-in-None-y : goal.returns-in-None-y
+pub returns-in_default-axis_of : goal.returns-in_default-axis_of
 unfolding crop_of
-returns-in-None-y c =
-    sym (crop_off_y _ _ _ _ (sym c.axis_of-x.ensures ∙ c.in-Is.is)
-    (sym c.axis_of-y.ensures ∙ c.in-None-y.is))
+returns-in_default-axis_of c = sym (crop_off_y _ _ _ (sym c.in-Some.ensures) (sym c.in_default-axis_of.ensures))
 
-pub returns-in-Is-y : goal.returns-in-Is-y
+pub returns : goal.returns
 unfolding crop_of
-returns-in-Is-y c =
-    sym (crop-on _ _ _ _ _ _ (sym c.axis_of-x.ensures ∙ c.in-Is.is)
-    (sym c.axis_of-y.ensures ∙ c.in-Is-y.is))
+returns c = sym (crop-on _ _ _ _ (sym c.in-Some.ensures) (sym c.in-Some-axis_of.ensures))

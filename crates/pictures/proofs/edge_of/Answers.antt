@@ -11,26 +11,27 @@ returns-then-od-eq0 c =
     let a = c.args in
     sym (ap told_edge (edge_no_offset a.side a.n a.d (signed 4 a.o) a.od c.if-od-eq0.true))
 
+pub returns-in_err-c : goal.returns-in_err-c
+unfolding told_edge
+returns-in_err-c c =
+    let a = c.args in
+    rw c.from_residual.ensures
+    (sym (ap told_edge (edge_no_width a.side a.n a.d (signed 4 a.o) a.od
+    (step_fails _ (sym c.in_err-c.ensures)))))
+
 pub overflow_cast-c : goal.overflow_cast-c
 overflow_cast-c c =
     let a = c.args in
-    let l = width-within a.side a.n a.d _ (step_is _ _ (sym c.width_of-width.ensures ∙ c.in-Is.is)) in
+    let l = width-within a.side a.n a.d _ (step_is _ _ (sym c.in_ok-c.ensures)) in
     omega arith
 
 pub stepped_edge-requires : goal.stepped_edge-requires
 stepped_edge-requires c =
     let a = c.args in
-    (omega arith, width-within a.side a.n a.d _ (step_is _ _ (sym c.width_of-width.ensures ∙ c.in-Is.is)))
+    (omega arith, width-within a.side a.n a.d _ (step_is _ _ (sym c.in_ok-c.ensures)))
 
-pub returns-in-Fails : goal.returns-in-Fails
-unfolding told_edge
-returns-in-Fails c =
-    let a = c.args in
-    sym (ap told_edge (edge_no_width a.side a.n a.d (signed 4 a.o) a.od
-    (step_fails _ (sym c.width_of-width.ensures ∙ c.in-Fails.is))))
-
-pub returns-in-Is : goal.returns-in-Is
-returns-in-Is c =
+pub returns : goal.returns
+returns c =
     let a = c.args in
     c.stepped_edge.ensures ∙ sym (ap told_edge (edge-stepped a.side a.n a.d (signed 4 a.o) a.od _
-    (omega arith) (step_is _ _ (sym c.width_of-width.ensures ∙ c.in-Is.is))))
+    (omega arith) (step_is _ _ (sym c.in_ok-c.ensures))))

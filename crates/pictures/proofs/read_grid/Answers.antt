@@ -1,23 +1,18 @@
 -- `pictures::read_grid` meets its contract. Assumes nothing.
-use Rattle.pictures.proofs.GridLaws.{four_at-most, grid-version, grid-length, grid_wrong, grid-right}
+use Rattle.pictures.proofs.GridLaws.{grid-version, grid-length, grid_wrong, grid-right}
 use Rattle.pictures.specs.Recipe.{field_bytes}
 use Rattle.fields.proofs.FieldLaws.{be_below}
 use Rattle.std.proofs.Common.{sym, refl, ap, ◌∙◌, arith}
 use Rattle.pictures.proofs.read_grid.Goals as goal
+use Rattle.pictures.proofs.read_grid.Goals.{then-b-lt4-via-then-b-lt4, then-b-lt4-via-else-b-lt4+then-be8-ne0}
 
 pub returns-then-b-lt4 : goal.returns-then-b-lt4
-returns-then-b-lt4 c = let s = c.args.b.now in sym (grid_wrong _ (grid-length 0 s _ refl (λ e. omega arith)))
-
-pub returns-then-be8-ne0 : goal.returns-then-be8-ne0
-returns-then-be8-ne0 c =
+returns-then-b-lt4 c =
     let s = c.args.b.now in
-    sym (grid_wrong _ (grid-version 0 s (λ e. c.if-be8-ne0.true (c.be8.ensures ∙ e))))
-
-pub overflow_mul-w : goal.overflow_mul-w
-overflow_mul-w c = omega (arith, four_at-most _ c.bytes_of-w.ensures.1)
-
-pub overflow_add-w : goal.overflow_add-w
-overflow_add-w c = omega (arith, four_at-most _ c.bytes_of-w.ensures.1)
+    elim c.then-b-lt4.branch [
+      | then-b-lt4-via-then-b-lt4 w ↦ sym (grid_wrong _ (grid-length 0 s _ refl (λ e. omega arith)))
+      | then-b-lt4-via-else-b-lt4+then-be8-ne0 w ↦ sym (grid_wrong _ (grid-version 0 s (λ e. w.if-be8-ne0.true (w.be8.ensures ∙ e))))
+    ]
 
 pub returns-then-b-w : goal.returns-then-b-w
 returns-then-b-w c =

@@ -1,5 +1,5 @@
 -- `placed::has_lengths` meets its contract. Assumes nothing.
-use Prim.Native.Nat.{ℕ, ◌-◌, ◌<◌}
+use Prim.Native.Nat.{ℕ, ◌<◌}
 use mathlib.Core.Path.{◌≡◌}
 use mathlib.Core.List.{List}
 use mathlib.Core.Bool.{not}
@@ -18,6 +18,3 @@ invariant-loop-j l =
     (head : List ℕ) (pl : Places) (f : File) → TableOf l.table head pl f → l.row.0 < length f.items →
     good_lengths (location_of f (id_of f l.row.0)) ≡ all_extents (λ (e : Extent). not (eqb e.size 0))
     (drop l.j (location_of f (id_of f l.row.0)).extents)
-
-abbrev pub decreases-loop-j : goal.decreases-loop-j
-decreases-loop-j l = l.n - l.j

@@ -1,5 +1,5 @@
 -- `placed::lie_before` meets its contract: both tests of an extent are one, and what all make of it is what those from here on make. Assumes nothing.
-use Prim.Native.Nat.{ℕ, ◌-◌, ◌<◌}
+use Prim.Native.Nat.{ℕ, ◌<◌}
 use mathlib.Core.Path.{◌≡◌}
 use mathlib.Core.List.{List}
 use lib.ListN.{length, drop}
@@ -16,6 +16,3 @@ invariant-loop-j l =
     (head : List ℕ) (pl : Places) (f : File) → TableOf l.table head pl f → l.row.0 < length f.items →
     all_extents (ends_by l.end pl (location_of f (id_of f l.row.0))) (location_of f (id_of f l.row.0)).extents ≡
     all_extents (ends_by l.end pl (location_of f (id_of f l.row.0))) (drop l.j (location_of f (id_of f l.row.0)).extents)
-
-abbrev pub decreases-loop-j : goal.decreases-loop-j
-decreases-loop-j l = l.n - l.j

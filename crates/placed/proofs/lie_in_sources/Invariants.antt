@@ -1,6 +1,6 @@
 -- `placed::lie_in_sources` meets its contract. The loop's invariant: what the extents from here on make of 14 is what all make.
--- The measure is what is left of them. Assumes nothing.
-use Prim.Native.Nat.{ℕ, ◌-◌, ◌≤◌, ◌<◌}
+-- Assumes nothing.
+use Prim.Native.Nat.{ℕ, ◌-◌, ◌<◌}
 use mathlib.Core.Path.{◌≡◌}
 use mathlib.Core.List.{List}
 use mathlib.Core.Bool.{false}
@@ -15,10 +15,7 @@ use Rattle.placed.proofs.lie_in_sources.Given as goal
 
 abbrev pub invariant-loop-e : goal.invariant-loop-e
 invariant-loop-e l =
-    (l.first ≤ l.e) × (l.e ≤ l.past) × (l.past ≤ 512) × ((head : List ℕ) (pl : Places) (f : File) (r : ℕ) →
+    (head : List ℕ) (pl : Places) (f : File) (r : ℕ) →
     SourcesAre l.table l.rows l.sums head pl l.ends.idat f → r < length f.items → RowIs l.table r l.first l.past l.method →
     Chained f (id_of f r) → names_past 8 f (id_of f r) ≡ false →
-    InFrom l.ends.total head f (id_of f r) (l.e - l.first))
-
-abbrev pub decreases-loop-e : goal.decreases-loop-e
-decreases-loop-e l = l.past - l.e
+    InFrom l.ends.total head f (id_of f r) (l.e - l.first)

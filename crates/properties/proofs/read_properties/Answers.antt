@@ -1,4 +1,9 @@
 -- `properties::read_properties` meets its contract. Assumes nothing.
+use mathlib.Core.Path.{sym}
+use lib.ListN.{length}
+use Prim.Native.Nat.{◌≤◌, ◌<◌}
+use native.Mathlib.Omega.{arith}
+use Rattle.std.proofs.lemmas.Result.{err_from_is_err_and}
 use Rattle.properties.proofs.PropertyLaws.{
   properties_begin,
   properties_further,
@@ -8,85 +13,56 @@ use Rattle.properties.proofs.PropertyLaws.{
   properties_spare,
   properties-end,
 }
-use mathlib.Core.Path.{sym, ◌∙◌}
-use native.Mathlib.Omega.{arith}
 use Rattle.properties.proofs.read_properties.Goals as goal
+use Rattle.properties.proofs.read_properties.Goals.{In-Whole}
+
+-- where the box at hand lies
+box_in : (c : In-Whole) → (c.loop-kind.at < c.in-Whole.body) × (c.in-Whole.body ≤ c.in-Whole.end) × (c.in-Whole.end ≤ length c.args.s.now)
+box_in c =
+    let a = c.args in
+    let l = c.loop-kind in
+    properties_further a.s.now a.place a.base a.table.now l.table l.at l.n l.invariant _ _ _ (sym c.in-Whole.ensures)
 
 pub loop-kind-init : goal.loop-kind-init
 loop-kind-init c = properties_begin _ _ _ _
 
-pub overflow_add-here : goal.overflow_add-here
-overflow_add-here c = omega (arith, c.loop-kind.invariant.here)
-
 pub slice_bounds-add_property-count : goal.slice_bounds-add_property-count
 slice_bounds-add_property-count c =
-    let a = c.args in
-    let l = c.loop-kind in
-    let w = properties_further a.s.now a.place a.base a.table.now l.table l.at l.n l.invariant
-    c.in-Whole.kind c.in-Whole.body c.in-Whole.end
-    (sym c.child_at-c.ensures ∙ c.in-Whole.is) in
+    let w = box_in (goal.at.slice_bounds-add_property-count c).In-Whole in
     omega arith
 
 pub slice_bounds-add_property-start : goal.slice_bounds-add_property-start
 slice_bounds-add_property-start c =
-    let a = c.args in
-    let l = c.loop-kind in
-    let w = properties_further a.s.now a.place a.base a.table.now l.table l.at l.n l.invariant
-    c.in-Whole.kind c.in-Whole.body c.in-Whole.end
-    (sym c.child_at-c.ensures ∙ c.in-Whole.is) in
+    let w = box_in (goal.at.slice_bounds-add_property-start c).In-Whole in
     omega arith
 
 pub slice_bounds-add_property-end : goal.slice_bounds-add_property-end
 slice_bounds-add_property-end c =
-    let a = c.args in
-    let l = c.loop-kind in
-    let w = properties_further a.s.now a.place a.base a.table.now l.table l.at l.n l.invariant
-    c.in-Whole.kind c.in-Whole.body c.in-Whole.end
-    (sym c.child_at-c.ensures ∙ c.in-Whole.is) in
+    let w = box_in (goal.at.slice_bounds-add_property-end c).In-Whole in
     omega arith
 
 pub overflow_sub-end : goal.overflow_sub-end
 overflow_sub-end c =
-    let a = c.args in
-    let l = c.loop-kind in
-    let w = properties_further a.s.now a.place a.base a.table.now l.table l.at l.n l.invariant
-    c.in-Whole.kind c.in-Whole.body c.in-Whole.end
-    (sym c.child_at-c.ensures ∙ c.in-Whole.is) in
+    let w = box_in (goal.at.overflow_sub-end c).In-Whole in
     omega arith
 
-pub add_property-k-requires : goal.add_property-k-requires
-add_property-k-requires c =
+pub add_property-requires : goal.add_property-requires
+add_property-requires c =
+    let w = box_in (goal.at.add_property-requires c).In-Whole in
+    (omega (arith, c.loop-kind.invariant.here), omega arith, c.loop-kind.invariant.few, omega (arith, c.loop-kind.invariant.kept.kept.same_length))
+
+pub returns-in_err-add_property-in-Whole : goal.returns-in_err-add_property-in-Whole
+returns-in_err-add_property-in-Whole c =
     let a = c.args in
     let l = c.loop-kind in
-    let w = properties_further a.s.now a.place a.base a.table.now l.table l.at l.n l.invariant
-    c.in-Whole.kind c.in-Whole.body c.in-Whole.end
-    (sym c.child_at-c.ensures ∙ c.in-Whole.is) in
-    (omega (arith, l.invariant.here), omega arith, l.invariant.few, omega (arith, l.invariant.kept.kept.same_length))
-
-pub shape_of-table-in-Refused : goal.shape_of-table-in-Refused
-shape_of-table-in-Refused c =
-    c.add_property-k.auto.table ∙ c.loop-kind.invariant.kept.kept.same_length
-
-pub returns-in-Refused : goal.returns-in-Refused
-returns-in-Refused c =
-    let a = c.args in
-    let l = c.loop-kind in
+    let p = err_from_is_err_and c.from_residual.result c.from_residual.ensures.1 in
     let whole = properties-held a.s.now a.place a.base a.table.now l.table l.at l.n l.invariant
-    c.in-Whole.kind c.in-Whole.body c.in-Whole.end
-    (sym c.child_at-c.ensures ∙ c.in-Whole.is) _ _ c.add_property-k.ensures _ c.in-Refused.is in
-    record { value = whole.0; properties_left = whole.1 }
-
-pub overflow_add-n : goal.overflow_add-n
-overflow_add-n c =
-    omega (arith, c.loop-kind.invariant.few)
+    _ _ _ (sym c.in-Whole.ensures) _ _ c.in_err-add_property-in-Whole.ensures in
+    record { value = rw (p.1, p.2) whole.0; properties_left = whole.1 }
 
 pub loop-kind-smaller : goal.loop-kind-smaller
 loop-kind-smaller c =
-    let a = c.args in
-    let l = c.loop-kind in
-    let w = properties_further a.s.now a.place a.base a.table.now l.table l.at l.n l.invariant
-    c.in-Whole.kind c.in-Whole.body c.in-Whole.end
-    (sym c.child_at-c.ensures ∙ c.in-Whole.is) in
+    let w = box_in (goal.at.loop-kind-smaller c).In-Whole in
     omega arith
 
 pub loop-kind-preserved : goal.loop-kind-preserved
@@ -94,38 +70,25 @@ loop-kind-preserved c =
     let a = c.args in
     let l = c.loop-kind in
     properties-more a.s.now a.place a.base a.table.now l.table l.at l.n l.invariant
-    c.in-Whole.kind c.in-Whole.body c.in-Whole.end
-    (sym c.child_at-c.ensures ∙ c.in-Whole.is) _ _ c.add_property-k.ensures c.in-Good.is
-
-pub shape_of-table-in-Bad : goal.shape_of-table-in-Bad
-shape_of-table-in-Bad c = c.loop-kind.invariant.kept.kept.same_length
+    _ _ _ (sym c.in-Whole.ensures) _ c.in_ok-add_property-in-Whole.ensures
 
 pub returns-in-Bad : goal.returns-in-Bad
 returns-in-Bad c =
     let a = c.args in
     let l = c.loop-kind in
-    let whole = properties-bad a.s.now a.place a.base a.table.now l.table l.at l.n l.invariant
-    (sym c.child_at-c.ensures ∙ c.in-Bad.is) in
+    let whole = properties-bad a.s.now a.place a.base a.table.now l.table l.at l.n l.invariant (sym c.in-Bad.ensures) in
     record { value = whole.0; properties_left = whole.1 }
-
-pub shape_of-table-in-Spare : goal.shape_of-table-in-Spare
-shape_of-table-in-Spare c = c.loop-kind.invariant.kept.kept.same_length
 
 pub returns-in-Spare : goal.returns-in-Spare
 returns-in-Spare c =
     let a = c.args in
     let l = c.loop-kind in
-    let whole = properties_spare a.s.now a.place a.base a.table.now l.table l.at l.n l.invariant
-    (sym c.child_at-c.ensures ∙ c.in-Spare.is) in
+    let whole = properties_spare a.s.now a.place a.base a.table.now l.table l.at l.n l.invariant (sym c.in-Spare.ensures) in
     record { value = whole.0; properties_left = whole.1 }
-
-pub shape_of-table-in-End : goal.shape_of-table-in-End
-shape_of-table-in-End c = c.loop-kind.invariant.kept.kept.same_length
 
 pub returns-in-End : goal.returns-in-End
 returns-in-End c =
     let a = c.args in
     let l = c.loop-kind in
-    let whole = properties-end a.s.now a.place a.base a.table.now l.table l.at l.n l.invariant
-    (sym c.child_at-c.ensures ∙ c.in-End.is) in
+    let whole = properties-end a.s.now a.place a.base a.table.now l.table l.at l.n l.invariant (sym c.in-End.ensures) in
     record { value = whole.0; properties_left = whole.1 }

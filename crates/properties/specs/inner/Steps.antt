@@ -1,13 +1,13 @@
 -- What the steps of reading an `iprp` answer and leave: the contracts of the crate's own functions.
---   told_checked, told_properties  the code's value for each answer
 --   next_property, AddedIs        one property read, and the table afterwards
---   level_of bs, told_level        the children of an `iprp` as far as the code keeps them
+--   level_of bs                   the children of an `iprp` as far as the code keeps them
 --   PropertiesLeft               the table afterwards, where a file is read into it
 --   pair_shown                    the contents of an `ipco` and an `ipma`
-use Rattle.std.specs.Prelude.{ℕ, ◌+◌, ◌*◌, ◌≡◌, List, [], ◌∷◌, ◌++◌, length, ltb}
+use Rattle.std.specs.Prelude.{ℕ, ◌+◌, ◌*◌, ◌≡◌, List, [], ◌∷◌, ◌++◌, length, ltb, Result, Ok, Err}
 use Rattle.std.proofs.lemmas.List.Edits.{sets}
 use Rattle.boxes.specs.Answer.{Answer, ok, refuse, check}
 use Rattle.boxes.specs.Answer as Ans
+use Rattle.boxes.specs.declared.Refusal.{Refusal}
 use Rattle.boxes.specs.Box.{head_of, kind_of}
 use Rattle.boxes.specs.Children.{contain}
 use Rattle.forms.specs.Form.{whole}
@@ -19,30 +19,15 @@ use Rattle.rules.specs.Places.{Places}
 use Rattle.records.specs.inner.Raw.{Bounded, raw_of}
 use Rattle.records.specs.inner.Stage.{Kept, Ready, with_properties, with_names}
 use Rattle.associations.specs.inner.Told.{KeptIds}
-use Rattle.properties.specs.declared.Checked.{Checked}
-use Rattle.properties.specs.declared.Checked.TheVariants as checked
-use Rattle.properties.specs.declared.PropertiesRead.{PropertiesRead}
-use Rattle.properties.specs.declared.PropertiesRead.TheVariants as properties
 use Rattle.properties.specs.declared.Level.{Level}
-use Rattle.properties.specs.declared.LevelRead.{LevelRead}
-use Rattle.properties.specs.declared.LevelRead.TheVariants as level
-
--- the answers
-unfoldable pub told_checked : Answer (Unit {0}) → Checked
-told_checked (ok u) = checked.Good
-told_checked (refuse n p) = checked.Refused (record { number = n; place = p })
-
-unfoldable pub told_properties : Answer (List (List ℕ)) → PropertiesRead
-told_properties (ok ps) = properties.Properties (length ps)
-told_properties (refuse n p) = properties.Refused (record { number = n; place = p })
 
 -- a property of type kind with the content s, whose box is at `place`, behind n others; m is the answer of reading it
 abbrev pub next_property : ℕ → ℕ → ℕ → List ℕ → Answer (Unit {0})
 next_property n kind place s = Ans.◌>>◌ (check 9 place (ltb n 256)) (good_content kind place s)
 
-abbrev pub AddedIs : Answer (Unit {0}) → ℕ → ℕ → ℕ → ℕ → List ℕ → List ℕ → Checked → Type 0
-AddedIs m n kind place size t u checked.Good = (m ≡ ok tt) × (u ≡ sets t (4112 + 4 * n) (kind ∷ place ∷ size ∷ 0 ∷ []))
-AddedIs m n kind place size t u (checked.Refused r) = (m ≡ refuse r.number r.place) × (u ≡ t)
+abbrev pub AddedIs : Answer (Unit {0}) → ℕ → ℕ → ℕ → ℕ → List ℕ → List ℕ → Result (Unit {0}) Refusal → Type 0
+AddedIs m n kind place size t u (Ok x) = (m ≡ ok tt) × (u ≡ sets t (4112 + 4 * n) (kind ∷ place ∷ size ∷ 0 ∷ []))
+AddedIs m n kind place size t u (Err r) = (m ≡ refuse r.number r.place) × (u ≡ t)
 
 -- the children of an `iprp`: how many, at most 3; of the first two the type, where the content begins and where they end
 unfoldable pub level_of : List (List ℕ) → Level
@@ -66,10 +51,6 @@ level_of (a ∷ b ∷ c ∷ cs) = record {
   body1 = length a + head_of b;
   end1 = length a + length b;
 }
-
-unfoldable pub told_level : Answer (List (List ℕ)) → LevelRead
-told_level (ok bs) = level.Is (level_of bs)
-told_level (refuse n p) = level.Refused (record { number = n; place = p })
 
 -- the table afterwards
 pub record PropertiesLeft (s : List ℕ) (place base : ℕ) (t u : List ℕ) : Type 0 where

@@ -1,8 +1,8 @@
 -- What reading an `iprp` answers and leaves.
---   told_shown         the code's value for each answer of `shown`
+--   shown_of          what the code counts of a content
 --   ShownLeft         the table afterwards: where properties and associations are read into the table of a file of n items that has none yet, theirs
 use Rattle.std.specs.Prelude.{ℕ, ◌+◌, ◌≡◌, List, [], ◌++◌, length}
-use Rattle.boxes.specs.Answer.{Answer, ok, refuse}
+use Rattle.boxes.specs.Answer.{ok}
 use Rattle.boxes.specs.Box.{head_of}
 use Rattle.contents.specs.Iinf.{ids_of}
 use Rattle.contents.specs.Ipma.{associations_in}
@@ -11,12 +11,10 @@ use Rattle.contents.specs.File.{File}
 use Rattle.rules.specs.Places.{Places}
 use Rattle.records.specs.inner.Raw.{raw_of}
 use Rattle.records.specs.inner.Stage.{Kept, Ready, with_properties, with_names}
-use Rattle.properties.specs.declared.ShownRead.{ShownRead}
-use Rattle.properties.specs.declared.ShownRead.TheVariants as read
+use Rattle.properties.specs.declared.Shown.{Shown}
 
-unfoldable pub told_shown : Answer IprpContent → ShownRead
-told_shown (ok v) = read.Shown (length v.properties) (associations_in v.associations)
-told_shown (refuse n p) = read.Refused (record { number = n; place = p })
+abbrev pub shown_of : IprpContent → Shown
+shown_of v = record { properties = length v.properties; associations = associations_in v.associations }
 
 -- the first property begins behind the header of the first box of s
 pub record ShownLeft (s : List ℕ) (place base n : ℕ) (t u : List ℕ) : Type 0 where

@@ -7,10 +7,10 @@ use Rattle.reading.proofs.SpotLaws.{no_idat, idat-is, idat-within}
 use native.Mathlib.Omega.{arith}
 use Rattle.reading.proofs.found_idat.Goals as goal
 
-pub returns-then-end-eq0 : goal.returns-then-end-eq0
-returns-then-end-eq0 c =
+pub returns-then-d-eq0 : goal.returns-then-d-eq0
+returns-then-d-eq0 c =
     λ s st. no_idat s c.args.at _ st (ap (λ (l : List Spot). (get_or l 6
-    (record { start = 0; body = 0; end = 0 })).end) (sym st.spots_are) ∙ c.if-end-eq0.true)
+    (record { start = 0; body = 0; end = 0 })).end) (sym st.spots_are) ∙ c.if-d-eq0.true)
 
 pub overflow_add-result : goal.overflow_add-result
 overflow_add-result c =
@@ -25,4 +25,4 @@ overflow_add-result-2 c =
     omega arith
 
 pub returns : goal.returns
-returns c = λ s st. idat-is s c.args.at _ st c.if-end-eq0.false
+returns c = λ s st. idat-is s c.args.at _ st c.if-d-eq0.false

@@ -2,7 +2,7 @@
 --   from_references, from_shown, from_locations, from_items, from_handler     from that box on
 --   NamedOf m v      the rows after all stages, m being what reading comes to
 --   read_words        what reading leaves in the table
-use Rattle.std.specs.Prelude.{ℕ, ◌+◌, ◌≡◌, List, [], ◌++◌, map, Bool, true, false, ◌⊎◌, length, replicate, drop, leb}
+use Rattle.std.specs.Prelude.{ℕ, ◌+◌, ◌≡◌, List, [], ◌++◌, map, Bool, true, false, ◌⊎◌, length, replicate, drop, leb, Result}
 use Rattle.fields.specs.Choice.{pick}
 use Rattle.boxes.specs.Answer.{Answer, ok, refuse, check, ◌>>=◌, ◌>>◌}
 use Rattle.boxes.specs.Types.{hdlr, pitm, iinf, iloc, iprp, iref, idat, family}
@@ -10,6 +10,8 @@ use Rattle.boxes.specs.Box.{head_of, body_of, cut}
 use Rattle.boxes.specs.Children.{of_kind, filled, place_of}
 use Rattle.boxes.specs.inner.Where.{where_of}
 use Rattle.boxes.specs.inner.Family.{spot_of}
+use Rattle.boxes.specs.Told.{told}
+use Rattle.boxes.specs.declared.Refusal.{Refusal}
 use Rattle.boxes.specs.declared.Spot.{Spot}
 use Rattle.forms.specs.Form.{whole, front}
 use Rattle.contents.specs.Hdlr.{hdlr_form}
@@ -26,8 +28,7 @@ use Rattle.records.specs.inner.Raw.{raw_of}
 use Rattle.records.specs.inner.Stage.{Ready}
 use Rattle.records.specs.inner.Named.{NamedIn}
 use Rattle.reading.specs.declared.Counts.{Counts}
-use Rattle.reading.specs.declared.FileRead.{FileRead}
-use Rattle.reading.specs.declared.FileRead.TheVariants as read
+use Rattle.reading.specs.declared.Idat.{Idat}
 
 -- bs the children, the first of them at `at`
 module _ (at : ℕ) (bs : List (List ℕ)) where
@@ -67,9 +68,11 @@ module _ (at : ℕ) (bs : List (List ℕ)) where
       (whole pitm_form (place_of pitm at bs) (content_of pitm) >>= (λ primary. from_items primary))
 
 -- the code's value: where the content of `idat` begins and ends, both 0 where there is none
-unfoldable pub told_file : ℕ → Answer File → FileRead
-told_file idat (ok f) = read.Is idat (idat + length f.idat)
-told_file idat (refuse n p) = read.Refused (record { number = n; place = p })
+abbrev pub idat_in : ℕ → File → Idat
+idat_in begin f = record { idat = begin; idat_end = begin + length f.idat }
+
+abbrev pub told_file : ℕ → Answer File → Result Idat Refusal
+told_file begin = told (idat_in begin)
 
 -- a box of a type is there; the five that must be
 abbrev pub Has : ℕ → List (List ℕ) → Type 0
@@ -102,8 +105,11 @@ pub record Standing (s : List ℕ) (spots : List Spot) : Type 0 where
   pub spots_are : spots ≡ spots_in (kids s)
 
 -- where the content of `idat` begins and ends, as the code says it
-unfoldable pub told_spot : ℕ → List ℕ → FileRead
-told_spot at s = read.Is (places_at at (kids s)).idat ((places_at at (kids s)).idat + length (data_of (of_kind idat (kids s))))
+unfoldable pub told_spot : ℕ → List ℕ → Idat
+told_spot at s = record {
+  idat = (places_at at (kids s)).idat;
+  idat_end = (places_at at (kids s)).idat + length (data_of (of_kind idat (kids s)));
+}
 
 -- before a stage: the table t is that of the file f as far as it is read, with n items and x behind it
 pub record Before (s : List ℕ) (at n : ℕ) (f : File) (x t : List ℕ) : Type 0 where
@@ -124,12 +130,12 @@ pub record LastBefore (s : List ℕ) (at : ℕ) (c : Counts) (f : File) (x t : L
   pub extents : c.extents ≡ extents_in f.locations
 
 -- after all stages: m what reading comes to, r the code's value, u the table, x what lies behind it
-pub record After (s : List ℕ) (at total : ℕ) (m : Answer File) (r : FileRead) (x u : List ℕ) : Type 0 where
+pub record After (s : List ℕ) (at total : ℕ) (m : Answer File) (r : Result Idat Refusal) (x u : List ℕ) : Type 0 where
   pub answer : r ≡ told_file (places_at at (kids s)).idat m
   pub left : (g : File) → m ≡ ok g → u ≡ raw_of (head_words total g) (places_at at (kids s)) g ++ x
 
 -- the same for a whole head
-pub record ReadLeft (total : ℕ) (head : List ℕ) (r : FileRead) (x u : List ℕ) : Type 0 where
+pub record ReadLeft (total : ℕ) (head : List ℕ) (r : Result Idat Refusal) (x u : List ℕ) : Type 0 where
   pub answer : r ≡ told_file (places_in total head).idat (read_file total head)
   pub left : (g : File) → read_file total head ≡ ok g → u ≡ raw_of (head_words total g) (places_in total head) g ++ x
 
@@ -138,7 +144,7 @@ abbrev pub NamedOf : Answer File → List ℕ → Type 0
 NamedOf m v = (g : File) → m ≡ ok g → NamedIn g v
 
 -- what reading answers: 1, then 2 to 11
-unfoldable pub read_answer : ℕ → ℕ → List ℕ → FileRead
+unfoldable pub read_answer : ℕ → ℕ → List ℕ → Result Idat Refusal
 read_answer n total head = told_file (places_in total head).idat (check 1 0 (leb table_words n) >> read_file total head)
 
 -- "Refusal 1 writes nothing", 2 to 11 set the first 11,280 words to 0, and a file that is read leaves its records

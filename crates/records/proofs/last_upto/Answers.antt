@@ -9,24 +9,6 @@ use Rattle.records.proofs.last_upto.Goals.{then-keys-at, else-keys-at}
 pub loop-width-init : goal.loop-width-init
 loop-width-init c = (omega arith, omega arith, within_all c.args.keys.now c.args.x)
 
-pub overflow_add-at : goal.overflow_add-at
-overflow_add-at c = omega arith
-
-pub offset_bounds-keys-at : goal.offset_bounds-keys-at
-offset_bounds-keys-at c = omega arith
-
-pub bounds-keys-at : goal.bounds-keys-at
-bounds-keys-at c = omega arith
-
-pub overflow_add-at-then-keys-at : goal.overflow_add-at-then-keys-at
-overflow_add-at-then-keys-at c = omega arith
-
-pub overflow_sub-width : goal.overflow_sub-width
-overflow_sub-width c = omega arith
-
-pub loop-width-smaller : goal.loop-width-smaller
-loop-width-smaller c = omega arith
-
 pub loop-width-preserved : goal.loop-width-preserved
 loop-width-preserved c =
     let l = c.loop-width in

@@ -5,11 +5,10 @@
 -- TargetsRowed t v    the same for all of a table that was read;   Ordered t v    v has, from 2,048 on, its rows in rising
 -- ID order;   Rowed t v    both
 --   FoundIs t n id     what a lookup says, whatever order it searches in
-use Rattle.std.specs.Prelude.{ℕ, zero, suc, ◌+◌, ◌*◌, ◌<◌, ◌≡◌, List, [], ◌∷◌, ◌++◌, false, get_or}
+use Rattle.std.specs.Prelude.{ℕ, zero, suc, ◌+◌, ◌*◌, ◌<◌, ◌≡◌, List, [], ◌∷◌, ◌++◌, Option, Some, None, false, get_or}
 use Rattle.fields.specs.Lists.{member}
 use Rattle.records.specs.inner.Keys.{order_of}
-use Rattle.records.specs.declared.FoundRow.{FoundRow}
-use Rattle.records.specs.declared.FoundRow.TheVariants.{At, Nothing}
+use Rattle.table.specs.declared.ItemRow.{ItemRow}
 
 abbrev pub id_at : List ℕ → ℕ → ℕ
 id_at t r = get_or t (16 + 16 * r) 0
@@ -34,6 +33,6 @@ Ordered t v = (k : ℕ) → k < get_or t 0 0 → get_or v (2048 + k) 0 ≡ get_o
 abbrev pub Rowed : List ℕ → List ℕ → Type 0
 Rowed t v = TargetsRowed t v × Ordered t v
 
-abbrev pub FoundIs : List ℕ → ℕ → ℕ → FoundRow → Type 0
-FoundIs t n id (At r) = (r.0 < n) × (id_at t r.0 ≡ id)
-FoundIs t n id Nothing = (k : ℕ) → k < n → id_at t k ≡ id → ⊥
+abbrev pub FoundIs : List ℕ → ℕ → ℕ → Option ItemRow → Type 0
+FoundIs t n id (Some r) = (r.0 < n) × (id_at t r.0 ≡ id)
+FoundIs t n id None = (k : ℕ) → k < n → id_at t k ≡ id → ⊥

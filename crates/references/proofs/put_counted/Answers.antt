@@ -1,7 +1,7 @@
 -- `references::put_counted` meets its contract. Assumes nothing.
 use mathlib.Core.Path.{refl, sym, ◌∙◌}
+use Rattle.std.proofs.lemmas.Result.{err_from_is_err_and}
 use Rattle.fields.proofs.FieldLaws.{be_below}
-use Rattle.fields.proofs.TestLaws.{untrue}
 use Rattle.records.proofs.KeptLaws.{kept_same}
 use Rattle.references.proofs.PutLaws.{put-count-cut, pass_refused, pass_done, as_dimg, as_iloc, as_other}
 use Rattle.references.proofs.RowedLaws.{no_targets, rowed_passed}
@@ -44,11 +44,6 @@ put_places-requires c =
       );
     }
 
-pub put_targets-t-requires : goal.put_targets-t-requires
-put_targets-t-requires c =
-    let p = c.requires in
-    (p.in_bounds.0, omega (arith, p.in_bounds.1), p.in_bounds.2, c.if-s-w.false, p.in_bounds.3, p.in_bounds.4, λ y. untrue y)
-
 pub returns-in-Derives : goal.returns-in-Derives
 returns-in-Derives c =
     record {
@@ -67,30 +62,31 @@ returns-in-Places c =
       by_index_2 = c.put_places.ensures.by_index;
     }
 
-pub returns-in-Refused : goal.returns-in-Refused
-returns-in-Refused c =
+pub returns-in_err-put_targets-in-Other : goal.returns-in_err-put_targets-in-Other
+returns-in_err-put_targets-in-Other c =
     let a = c.args in
     let p = c.requires in
+    let r = err_from_is_err_and c.from_residual.result c.from_residual.ensures.1 in
     record {
-      kept = c.put_targets-t.ensures.targets_left.kept;
-      by_index = λ kind before y q fresh. pass_refused a.table.now a.n a.w a.place a.used
+      kept = c.put_targets.ensures.targets_left.kept;
+      by_index = λ kind before y q fresh. rw (r.1, r.2) (pass_refused a.table.now a.n a.w a.place a.used
           a.s.now kind before q p.w_in_bounds.0 _ p.w_in_bounds.1 p.w_in_bounds.2 fresh c.if-s-w.false _ c.be16-k.ensures
-          (as_other a.purpose kind y c.in-Other.is).0 _ (sym c.put_targets-t.ensures.value ∙ c.in-Refused.is) _ _ _;
-      by_index_2 = λ m e. no_targets _ m e;
+          (as_other a.purpose kind y c.in-Other.is).0 _ (sym c.in_err-put_targets-in-Other.ensures.value) _ _ _);
+      by_index_2 = λ m e. no_targets _ m (sym r.1 ∙ e);
     }
 
-pub returns-in-Done : goal.returns-in-Done
-returns-in-Done c =
+pub returns-in_ok-put_targets-in-Other : goal.returns-in_ok-put_targets-in-Other
+returns-in_ok-put_targets-in-Other c =
     let a = c.args in
     let p = c.requires in
-    let same = c.put_targets-t.ensures.targets_left.other refl in
-    let rows = c.put_targets-t.ensures.rows_unchanged.0 refl in
+    let same = c.put_targets.ensures.targets_left.other refl in
+    let rows = c.put_targets.ensures.rows_unchanged.0 refl in
     record {
-      kept = c.put_targets-t.ensures.targets_left.kept;
+      kept = c.put_targets.ensures.targets_left.kept;
       by_index = λ kind before y q fresh. let o =
           as_other a.purpose kind y c.in-Other.is in
           pass_done a.table.now a.n a.w a.place a.used a.s.now kind before q p.w_in_bounds.0 _ p.w_in_bounds.1
-          p.w_in_bounds.2 fresh c.if-s-w.false _ c.be16-k.ensures o.0 o.1 (sym c.put_targets-t.ensures.value ∙ c.in-Done.is) _
+          p.w_in_bounds.2 fresh c.if-s-w.false _ c.be16-k.ensures o.0 o.1 (sym c.in_ok-put_targets-in-Other.ensures.value) _
           _ _ same rows;
       by_index_2 = rowed_passed _ _ _ _ _ _ same rows;
     }

@@ -1,28 +1,11 @@
 -- `references::put_names` meets its contract. Assumes nothing.
-use Prim.Native.Nat.{◌+◌}
 use Rattle.references.proofs.NameLaws.{names-other, names-over, names-put}
-use native.Mathlib.Omega.{arith}
 use Rattle.references.proofs.put_names.Goals as goal
 
 pub returns-then-table-a-ne2 : goal.returns-then-table-a-ne2
 returns-then-table-a-ne2 c =
     let a = c.args in
     names-other a.table.now a.n a.k _ a.row.0 _ _ c.item-a.ensures c.if-table-a-ne2.true
-
-pub overflow_cast-first : goal.overflow_cast-first
-overflow_cast-first c = omega (arith, c.type_inv.table (c.item-a.result + 7))
-
-pub overflow_cast-count : goal.overflow_cast-count
-overflow_cast-count c =
-    omega (arith, c.type_inv.table (c.item-a.result + 8))
-
-pub overflow_add-first-2 : goal.overflow_add-first-2
-overflow_add-first-2 c =
-    omega (
-      arith,
-      c.type_inv.table (c.item-a.result + 8),
-      c.type_inv.table (c.item-a.result + 7),
-    )
 
 pub returns-then-first-count-gt512 : goal.returns-then-first-count-gt512
 returns-then-first-count-gt512 c =

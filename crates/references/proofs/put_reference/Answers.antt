@@ -1,11 +1,8 @@
 -- `references::put_reference` meets its contract. Assumes nothing.
-use mathlib.Core.Path.{sym, ◌∙◌, subst}
-use Rattle.records.specs.inner.Rows.{FoundIs}
-use Rattle.records.proofs.IdLaws.{found-row}
+use mathlib.Core.Path.{sym, ◌∙◌}
 use Rattle.records.proofs.KeptLaws.{kept_same}
 use Rattle.references.proofs.PutLaws.{put_source_cut, put_source_unlisted, put_source_twice, source_fresh}
 use Rattle.references.proofs.RowedLaws.{no_targets}
-use native.Mathlib.Omega.{arith}
 use Rattle.references.proofs.put_reference.Goals as goal
 
 pub returns-then-s-w : goal.returns-then-s-w
@@ -17,15 +14,10 @@ returns-then-s-w c =
       by_index_2 = λ m e. no_targets _ m e;
     }
 
-pub is_second-requires : goal.is_second-requires
-is_second-requires c =
-    let g = found-row c.args.table.now c.args.n _ _ _ c.row_away-f.ensures c.in-At.is in
-    (c.requires.0, c.requires.1, omega (arith, g.0, c.requires.2))
-
 pub returns-then-is_second : goal.returns-then-is_second
 returns-then-is_second c =
     let a = c.args in
-    let g = found-row a.table.now a.n _ _ _ c.row_away-f.ensures c.in-At.is in
+    let g = c.in-Some.ensures in
     record {
       kept = kept_same _;
       by_index = λ kind before e q marked links. put_source_twice a.table.now a.n a.w
@@ -38,23 +30,23 @@ returns-then-is_second c =
 pub put_counted-requires : goal.put_counted-requires
 put_counted-requires c =
     let a = c.args in
-    let g = found-row a.table.now a.n _ _ _ c.row_away-f.ensures c.in-At.is in
+    let g = c.in-Some.ensures in
     record { in_bounds = c.requires; w_in_bounds = (c.if-s-w.false, g.0, g.1 ∙ c.be_id.ensures) }
 
-pub returns-in-Nothing : goal.returns-in-Nothing
-returns-in-Nothing c =
+pub returns-in-None : goal.returns-in-None
+returns-in-None c =
     let a = c.args in record {
       kept = kept_same _;
       by_index = λ kind before e q marked links. put_source_unlisted a.table.now a.n a.w a.place
           a.used a.s.now kind before q c.if-s-w.false _ c.be_id.ensures
-          (subst (FoundIs _ _ _) c.in-Nothing.is c.row_away-f.ensures) _ _ _;
+          c.in-None.ensures _ _ _;
       by_index_2 = λ m e. no_targets _ m e;
     }
 
 pub returns-else-is_second : goal.returns-else-is_second
 returns-else-is_second c =
     let a = c.args in
-    let g = found-row a.table.now a.n _ _ _ c.row_away-f.ensures c.in-At.is in
+    let g = c.in-Some.ensures in
     record {
       kept = c.put_counted.ensures.kept;
       by_index = λ kind before e q marked links. c.put_counted.ensures.by_index kind before e q

@@ -1,7 +1,7 @@
 -- What the steps of reading an `iref` answer and leave: the targets of a reference, the reference, all of them. t and u are the table
 -- before and after, v and x the rows.
 --   targets_from ids w k p s from   the k targets, of w bytes each, that stand in s from a place on, in a box at p
---   told_targets                    the code's value for them;   TargetsLeft    the table after them
+--   no_value                        the code's value for them, which is none;   TargetsLeft    the table after them
 --   purpose_of kind                 what a reference of a box's type is read for
 --   Marked t n ds                  the rows of the table t that have a target count are those of the items that ds derives
 --   MarkedLinks t n ks v           the rows that v marks, from 2,048 on, are those of the items that have one of the links ks
@@ -14,11 +14,13 @@
 --   LinkStored                     the rows after an `iloc`;   Added    table and rows after a reference that is good
 --   Put                            the answer, table and rows after a reference
 --   ChildrenLeft                   table and rows after all of them, a being their answer
-use Rattle.std.specs.Prelude.{ℕ, ◌+◌, ◌*◌, ◌<◌, ◌≤◌, ◌≡◌, List, [], ◌∷◌, ◌++◌, Bool, true, false, not, ◌⊎◌, length, get_or, set, drop, eqb}
+use Rattle.std.specs.Prelude.{ℕ, ◌+◌, ◌*◌, ◌<◌, ◌≤◌, ◌≡◌, List, [], ◌∷◌, ◌++◌, Bool, true, false, not, ◌⊎◌, length, get_or, set, drop, eqb, Result}
 use Rattle.std.proofs.lemmas.List.Edits.{sets}
 use Rattle.fields.specs.Choice.{pick}
 use Rattle.fields.specs.Lists.{member}
-use Rattle.boxes.specs.Answer.{Answer, ok, refuse, ◌>>=◌}
+use Rattle.boxes.specs.Answer.{Answer, ok, ◌>>=◌}
+use Rattle.boxes.specs.declared.Refusal.{Refusal}
+use Rattle.boxes.specs.Told.{told}
 use Rattle.boxes.specs.Types.{dimg, iloc}
 use Rattle.forms.specs.Form.{many, whole}
 use Rattle.contents.specs.Iref.{Reference, IrefContent, referring_in, target_form, reference_form, kept_by}
@@ -28,19 +30,15 @@ use Rattle.records.specs.inner.Raw.{raw_of}
 use Rattle.records.specs.inner.Rows.{id_at, ids_in}
 use Rattle.records.specs.inner.Named.{NamedRows}
 use Rattle.records.specs.inner.Stage.{Kept, Ready, with_references}
-use Rattle.references.specs.inner.Told.{told_references}
+use Rattle.references.specs.inner.Told.{target_count}
 use Rattle.references.specs.declared.Purpose.{Purpose}
 use Rattle.references.specs.declared.Purpose.TheVariants.{Derives, Places, Other}
-use Rattle.references.specs.declared.ReferencesRead.{ReferencesRead}
-use Rattle.references.specs.declared.TargetsPut.{TargetsPut}
-use Rattle.references.specs.declared.TargetsPut.TheVariants as targets
 
 abbrev pub targets_from : List ℕ → ℕ → ℕ → ℕ → List ℕ → ℕ → Answer (List ℕ)
 targets_from ids w k p s from = whole (many (target_form ids w) k []) p (drop from s)
 
-unfoldable pub told_targets : Answer (List ℕ) → TargetsPut
-told_targets (ok ts) = targets.Done
-told_targets (refuse n p) = targets.Refused (record { number = n; place = p })
+abbrev pub no_value : List ℕ → Unit {0}
+no_value ts = tt
 
 -- those of a `dimg` become the targets from number `used` on
 pub record TargetsLeft (a : Answer (List ℕ)) (k : ℕ) (keep : Bool) (used : ℕ) (t u : List ℕ) : Type 0 where
@@ -106,8 +104,8 @@ pub record Added (kind n used : ℕ) (before : IrefContent) (d : Reference) (t u
   pub linked : eqb kind iloc ≡ true → LinkStored n before.links d t v x
   pub past : eqb kind iloc ≡ false → (i : ℕ) → 2048 ≤ i → get_or x i 0 ≡ get_or v i 0
 
-pub record Put (w kind p : ℕ) (s : List ℕ) (n used : ℕ) (before : IrefContent) (t u v x : List ℕ) (r : ReferencesRead) : Type 0 where
-  pub answer : r ≡ told_references (stepped (ids_in t n) w kind p before s)
+pub record Put (w kind p : ℕ) (s : List ℕ) (n used : ℕ) (before : IrefContent) (t u v x : List ℕ) (r : Result ℕ Refusal) : Type 0 where
+  pub answer : r ≡ told target_count (stepped (ids_in t n) w kind p before s)
   pub added : (d : Reference) → whole (reference_form (ids_in t n) w kind before) p s ≡ ok d → Added kind n used before d t u v x
 
 pub record ChildrenLeft (a : Answer IrefContent) (n : ℕ) (t u v x : List ℕ) : Type 0 where

@@ -1,20 +1,17 @@
 -- What reading an `iref` answers and leaves.
---   told_references     the code's value for each answer of `references`
+--   target_count       the code's value for the references that were read
 --   ReferencesLeft     the table afterwards: where references are read into the table of a file of n items that has none yet, theirs
 use Rattle.std.specs.Prelude.{ℕ, ◌≡◌, List, [], ◌++◌}
-use Rattle.boxes.specs.Answer.{Answer, ok, refuse}
+use Rattle.boxes.specs.Answer.{ok}
 use Rattle.contents.specs.Iinf.{ids_of}
 use Rattle.contents.specs.Iref.{IrefContent, targets_in, references}
 use Rattle.contents.specs.File.{File}
 use Rattle.rules.specs.Places.{Places}
 use Rattle.records.specs.inner.Raw.{raw_of}
 use Rattle.records.specs.inner.Stage.{Kept, Ready, with_references}
-use Rattle.references.specs.declared.ReferencesRead.{ReferencesRead}
-use Rattle.references.specs.declared.ReferencesRead.TheVariants as read
 
-unfoldable pub told_references : Answer IrefContent → ReferencesRead
-told_references (ok c) = read.Targets (targets_in c.derivations)
-told_references (refuse n p) = read.Refused (record { number = n; place = p })
+abbrev pub target_count : IrefContent → ℕ
+target_count c = targets_in c.derivations
 
 pub record ReferencesLeft (s : List ℕ) (place base n : ℕ) (t u : List ℕ) : Type 0 where
   pub kept : Kept t u

@@ -1,6 +1,5 @@
--- `sizing::all_size` meets its contract. The loop's invariant: all have the size if those from here on have it. The
--- measure is what is left of them. Assumes nothing.
-use Prim.Native.Nat.{ℕ, ◌-◌, ◌≤◌, ◌<◌}
+-- `sizing::all_size` meets its contract. The loop's invariant: all have the size if those from here on have it. Assumes nothing.
+use Prim.Native.Nat.{ℕ, ◌<◌}
 use mathlib.Core.Path.{◌≡◌}
 use mathlib.Core.List.{List}
 use mathlib.Core.Bool.{true}
@@ -15,10 +14,7 @@ use Rattle.sizing.proofs.all_size.Given as goal
 
 abbrev pub invariant-loop-j : goal.invariant-loop-j
 invariant-loop-j l =
-    (l.j ≤ l.n) × ((total : ℕ) (head : List ℕ) (f : File) → Drawn l.table l.rows head total f → l.row.0 < length f.items →
+    (total : ℕ) (head : List ℕ) (f : File) → Drawn l.table l.rows head total f → l.row.0 < length f.items →
     image (item_at f l.row.0).type ≡ true → all_size (scene_of total head f) l.z
     (picture_at (scene_of total head f) l.row.0).inputs ≡ all_size (scene_of total head f) l.z
-    (drop l.j (picture_at (scene_of total head f) l.row.0).inputs))
-
-abbrev pub decreases-loop-j : goal.decreases-loop-j
-decreases-loop-j l = l.n - l.j
+    (drop l.j (picture_at (scene_of total head f) l.row.0).inputs)

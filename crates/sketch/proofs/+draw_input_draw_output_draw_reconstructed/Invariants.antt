@@ -14,7 +14,4 @@ abbrev pub decreases-draw_reconstructed : goal.decreases-draw_reconstructed
 decreases-draw_reconstructed l = 3 * l.limit.down + 1
 
 abbrev pub invariant-draw_reconstructed-loop-k : goal.invariant-draw_reconstructed-loop-k
-invariant-draw_reconstructed-loop-k l = (l.k ≤ l.n) × (l.rest ≤ l.limit.left)
-
-abbrev pub decreases-draw_reconstructed-loop-k : goal.decreases-draw_reconstructed-loop-k
-decreases-draw_reconstructed-loop-k l = l.n - l.k
+invariant-draw_reconstructed-loop-k l = l.rest ≤ l.limit.left

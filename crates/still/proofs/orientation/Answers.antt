@@ -1,24 +1,29 @@
 -- `still::orientation` meets its contract. Assumes nothing.
 use Rattle.std.proofs.Common.{sym, ◌∙◌}
-use Rattle.opening.proofs.FileLaws.{opened-file, file-view}
-use Rattle.still.proofs.OrientationLaws.{orientation_off, orientation-on}
+use Rattle.boxes.proofs.ToldLaws.{told-ok, told-refused}
+use Rattle.contents.specs.File.{File}
+use Rattle.facing.specs.Orientation.{orientation}
+use Rattle.facing.specs.Told.{told_oriented}
+use Rattle.opening.proofs.FileLaws.{file-view}
+use Rattle.still.proofs.OpenedLaws.{off, on}
 use Rattle.still.proofs.ArrangedLaws.{order_given}
 use Rattle.still.proofs.orientation.Goals as goal
-use Rattle.still.proofs.orientation.Goals.{in-Refused, in-Accepted}
+use Rattle.still.proofs.orientation.Goals.{in-Err, in-Ok}
 
 pub returns : goal.returns
+unfolding orientation told_oriented
 returns c =
     let a = c.args in
     let o = c.open_rows-o.ensures in
     let few = c.ranges.total.fits in (
       elim c.match-o.branch [
-        | in-Refused w ↦ w.answer-is ∙ orientation_off a.total a.head.now a.table.now _ _ (sym o.opened_given.0 ∙ w.in-Refused.is)
-        | in-Accepted w ↦
-            let k = opened-file _ (sym o.opened_given.0 ∙ w.in-Accepted.is) in
+        | in-Err w ↦ w.answer-is ∙ off told_oriented _ _ _ _ (told-refused (λ (f : File). tt) _ _ (sym o.opened_given.0 ∙ w.in-Err.is))
+        | in-Ok w ↦
+            let k = told-ok (λ (f : File). tt) _ _ (sym o.opened_given.0 ∙ w.in-Ok.is) in
             w.answer-is ∙ w.orientation_in-answer.ensures a.total _ k.0
             (file-view a.total a.head.now a.table.now few k.0 k.1 _ o.opened_given.1) ∙
-            orientation-on a.total a.head.now a.table.now _ k.0 k.1
+            on told_oriented _ _ k.0 k.1
       ],
       c.arrange.ensures a.total a.head.now a.table.now o.opened_given.1
-          (order_given a.total a.head.now a.table.now _ o.opened_given.0 o.resolved),
+          (order_given a.total a.head.now a.table.now _ _ _ o.opened_given.0 o.resolved),
     )

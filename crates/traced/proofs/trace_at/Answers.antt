@@ -1,6 +1,5 @@
 -- `traced::trace_at` meets its contract. Assumes nothing.
 use mathlib.Core.Path.{◌∙◌}
-use mathlib.Core.Logic.{inl, inr}
 use Rattle.traced.proofs.TraceLaws.{trace-row, trace-image, trace-outside, on-output, end-listed, trace-inside}
 use Rattle.traced.proofs.trace_at.Goals as goal
 
@@ -8,15 +7,7 @@ pub returns-then-s-p : goal.returns-then-s-p
 returns-then-s-p c =
     λ total f w q.
     let a = c.args in
-    trace-outside w a.id.0 a.p a.row.0 q _ c.output_in-s.ensures (inl c.if-s-p.true) _
-    c.refusal.ensures.0 c.refusal.ensures.1
-
-pub returns-then-s-p-2 : goal.returns-then-s-p-2
-returns-then-s-p-2 c =
-    λ total f w q.
-    let a = c.args in
-    trace-outside w a.id.0 a.p a.row.0 q _ c.output_in-s.ensures (inr c.if-s-p-2.true) _
-    c.refusal-then-s-p-2.ensures.0 c.refusal-then-s-p-2.ensures.1
+    trace-outside w a.id.0 a.p a.row.0 q _ c.output_in-s.ensures c.then-s-p.either _ c.refusal.ensures.0 c.refusal.ensures.1
 
 pub returns : goal.returns
 returns c =

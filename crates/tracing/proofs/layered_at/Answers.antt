@@ -7,10 +7,8 @@ use Rattle.tracing.proofs.LayerLaws.{rest-long, inputs-inside, layers_shown, lay
 use Rattle.tracing.proofs.layered_at.Goals as goal
 
 pub returns-then-table-lt-WORDS : goal.returns-then-table-lt-WORDS
-returns-then-table-lt-WORDS c = λ total f v h e. absurd (omega (arith, v.followed.view.enough, c.if-table-lt-WORDS.true))
-
-pub returns-then-rows-lt2048 : goal.returns-then-rows-lt2048
-returns-then-rows-lt2048 c = λ total f v h e. absurd (omega (arith, v.followed.many, c.if-rows-lt2048.true))
+returns-then-table-lt-WORDS c =
+    λ total f v h e. absurd (omega (arith, v.followed.view.enough, v.followed.many, c.then-table-lt-WORDS.either))
 
 pub returns-then-first-n-gt2048 : goal.returns-then-first-n-gt2048
 returns-then-first-n-gt2048 c =

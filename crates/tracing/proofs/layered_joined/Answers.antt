@@ -11,24 +11,24 @@ topmost_joined-requires c =
     let q = c.requires in
     (inl refl, q.0, q.1, q.2)
 
-pub returns-then-bytes-eq2 : goal.returns-then-bytes-eq2
-returns-then-bytes-eq2 c =
+pub returns-then-o-eq2 : goal.returns-then-o-eq2
+returns-then-o-eq2 c =
     λ total f w h b e s v there o eo.
-    let x = overlay_read b _ _ _ _ (sym c.in-Is.is ∙ c.joined_overlay-o.ensures total f w h b e) in
-    c.topmost_joined.ensures total f w h b e s v there o eo (sym c.if-bytes-eq2.true ∙ x.2)
+    let x = overlay_read b _ c.in-Some.o (sym c.in-Some.is ∙ c.joined_overlay.ensures total f w h b e) in
+    c.topmost_joined.ensures total f w h b e s v there o eo (sym c.if-o-eq2.true ∙ x.2)
 
-pub topmost_joined-requires-in-Is : goal.topmost_joined-requires-in-Is
-topmost_joined-requires-in-Is c =
+pub topmost_joined-requires-2 : goal.topmost_joined-requires-2
+topmost_joined-requires-2 c =
     let q = c.requires in
     (inr refl, q.0, q.1, q.2)
 
-pub returns-in-Wrong : goal.returns-in-Wrong
-returns-in-Wrong c =
-    λ total f w h b e s v there o eo. absurd (refused-ok _ o (told_no_overlay b _ (sym (sym c.in-Wrong.is ∙
-    c.joined_overlay-o.ensures total f w h b e))) eo)
+pub returns-in_default : goal.returns-in_default
+returns-in_default c =
+    λ total f w h b e s v there o eo. absurd (refused-ok _ o (told_no_overlay b _ (sym (c.joined_overlay.ensures total f w h b e) ∙
+    c.in_default.is)) eo)
 
-pub returns-else-bytes-eq2 : goal.returns-else-bytes-eq2
-returns-else-bytes-eq2 c =
+pub returns : goal.returns
+returns c =
     λ total f w h b e s v there o eo.
-    let x = overlay_read b _ _ _ _ (sym c.in-Is.is ∙ c.joined_overlay-o.ensures total f w h b e) in
-    c.topmost_joined-in-Is.ensures total f w h b e s v there o eo (sym (four _ x.0 c.if-bytes-eq2.false) ∙ x.2)
+    let x = overlay_read b _ c.in-Some.o (sym c.in-Some.is ∙ c.joined_overlay.ensures total f w h b e) in
+    c.topmost_joined-2.ensures total f w h b e s v there o eo (sym (four _ x.0 c.if-o-eq2.false) ∙ x.2)

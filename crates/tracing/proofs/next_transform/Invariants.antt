@@ -1,6 +1,6 @@
 -- `tracing::next_transform` meets its contract. The loop's invariant: what is left from k on leads to the same
--- transform as what is left from j on. The measure is n - k. Assumes nothing.
-use Rattle.std.proofs.Common.{◌≡◌, ℕ, ◌+◌, ◌-◌, ◌<◌, ◌≤◌, List, length, drop}
+-- transform as what is left from j on. Assumes nothing.
+use Rattle.std.proofs.Common.{◌≡◌, ℕ, ◌+◌, ◌<◌, ◌≤◌, max, List, length, drop}
 use Rattle.contents.specs.File.{File}
 use Rattle.rules.specs.Joined.{types_of}
 use Rattle.rules.specs.Places.{Places}
@@ -10,9 +10,6 @@ use Rattle.tracing.proofs.next_transform.Given as goal
 
 abbrev pub invariant-loop-k : goal.invariant-loop-k
 invariant-loop-k l =
-    (l.j ≤ l.k) × ((head : List ℕ) (pl : Places) (f : File) (r : ℕ) → TableOf l.table head pl f → r < length f.items →
+    (l.k ≤ max l.j l.n) × ((head : List ℕ) (pl : Places) (f : File) (r : ℕ) → TableOf l.table head pl f → r < length f.items →
     (r < 256 → l.first ≡ record_word l.table r 3) → (r < 256 → l.n ≡ record_word l.table r 4) →
     l.k + first_transform (drop l.k (types_of f (id_of f r))) ≡ l.j + first_transform (drop l.j (types_of f (id_of f r))))
-
-abbrev pub decreases-loop-k : goal.decreases-loop-k
-decreases-loop-k l = l.n - l.k

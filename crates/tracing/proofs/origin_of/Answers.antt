@@ -12,36 +12,31 @@ returns-in-Stay c =
 pub returns-in-Left : goal.returns-in-Left
 returns-in-Left c =
     let a = c.args in
-    leads-left a.t a.s (omega arith) (omega arith) _ _ _ c.origin_by-in-Left.ensures _ _ c.wrapping_sub_u32-right.ensures.value
-    c.wrapping_sub_u32-bottom.ensures.value (omega arith) (omega arith) c.in-Left.is
+    leads-left a.t a.s (omega arith) (omega arith) _ _ _ c.origin_by-in-Left.ensures c.in-Left.is
     c.back_from.ensures c.on_from-in-Left.ensures
 
 pub returns-in-Half : goal.returns-in-Half
 returns-in-Half c =
     let a = c.args in
-    leads-half a.t a.s (omega arith) (omega arith) _ _ _ c.origin_by-in-Half.ensures _ _ c.wrapping_sub_u32-right.ensures.value
-    c.wrapping_sub_u32-bottom.ensures.value (omega arith) (omega arith) c.in-Half.is
+    leads-half a.t a.s (omega arith) (omega arith) _ _ _ c.origin_by-in-Half.ensures c.in-Half.is
     c.back_from-in-Half.ensures c.back_from-in-Half-2.ensures
 
 pub returns-in-Right : goal.returns-in-Right
 returns-in-Right c =
     let a = c.args in
-    leads-right a.t a.s (omega arith) (omega arith) _ _ _ c.origin_by-in-Right.ensures _ _ c.wrapping_sub_u32-right.ensures.value
-    c.wrapping_sub_u32-bottom.ensures.value (omega arith) (omega arith) c.in-Right.is
+    leads-right a.t a.s (omega arith) (omega arith) _ _ _ c.origin_by-in-Right.ensures c.in-Right.is
     c.on_from-in-Right.ensures c.back_from-in-Right.ensures
 
 pub returns-in-FlipX : goal.returns-in-FlipX
 returns-in-FlipX c =
     let a = c.args in
-    leads_flip_x a.t a.s (omega arith) (omega arith) _ _ _ c.origin_by-in-FlipX.ensures _ _ c.wrapping_sub_u32-right.ensures.value
-    c.wrapping_sub_u32-bottom.ensures.value (omega arith) (omega arith) c.in-FlipX.is
+    leads_flip_x a.t a.s (omega arith) (omega arith) _ _ _ c.origin_by-in-FlipX.ensures c.in-FlipX.is
     c.back_from-in-FlipX.ensures c.on_from-in-FlipX.ensures
 
 pub returns-in-FlipY : goal.returns-in-FlipY
 returns-in-FlipY c =
     let a = c.args in
-    leads_flip_y a.t a.s (omega arith) (omega arith) _ _ _ c.origin_by-in-FlipY.ensures _ _ c.wrapping_sub_u32-right.ensures.value
-    c.wrapping_sub_u32-bottom.ensures.value (omega arith) (omega arith) c.in-FlipY.is
+    leads_flip_y a.t a.s (omega arith) (omega arith) _ _ _ c.origin_by-in-FlipY.ensures c.in-FlipY.is
     c.on_from-in-FlipY.ensures c.back_from-in-FlipY.ensures
 
 pub returns-in-Crop : goal.returns-in-Crop

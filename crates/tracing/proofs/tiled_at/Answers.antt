@@ -1,5 +1,5 @@
 -- `tracing::tiled_at` meets its contract: the tile's number is below the number of inputs. Assumes nothing.
-use Rattle.std.proofs.Common.{div-le_self, arith}
+use Rattle.std.proofs.Common.{div-le_self, ⊎_elim, arith}
 use Rattle.tracing.proofs.TileLaws.{tile_number, tile_wide, tile_high, tiled_source}
 use Rattle.tracing.proofs.tiled_at.Goals as goal
 
@@ -7,15 +7,9 @@ pub returns-then-w-eq0 : goal.returns-then-w-eq0
 returns-then-w-eq0 c =
     λ total head f d h g q e i.
     let a = c.args in
-    absurd (tile_wide d a.row.0 h g q a.p i c.input_of.result.0 (c.input_of.ensures head _ f d.followed.view d.resolved h) _
-    c.output_in-tile.ensures c.if-w-eq0.true)
-
-pub returns-then-h-eq0 : goal.returns-then-h-eq0
-returns-then-h-eq0 c =
-    λ total head f d h g q e i.
-    let a = c.args in
-    absurd (tile_high d a.row.0 h g q a.p i c.input_of.result.0 (c.input_of.ensures head _ f d.followed.view d.resolved h) _
-    c.output_in-tile.ensures c.if-h-eq0.true)
+    let k = c.input_of.ensures head _ f d.followed.view d.resolved h in
+    absurd (⊎_elim (tile_wide d a.row.0 h g q a.p i c.input_of.result.0 k _ c.output_in-tile.ensures)
+    (λ w. tile_high d a.row.0 h g q a.p i c.input_of.result.0 k _ c.output_in-tile.ensures w.1) c.then-w-eq0.either)
 
 pub overflow_cast-j : goal.overflow_cast-j
 overflow_cast-j c =

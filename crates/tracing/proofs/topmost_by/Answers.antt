@@ -1,5 +1,4 @@
--- `tracing::topmost_by` meets its contract. The loop's invariant: what lies on top of all inputs lies on top of those
--- below k. The measure is k. Assumes nothing.
+-- `tracing::topmost_by` meets its contract. Assumes nothing.
 use Rattle.std.proofs.Common.{◌-◌, ◌<◌, List, arith}
 use mir.Val.{Val}
 use denote.Laws.{Is}
@@ -21,7 +20,7 @@ few-y p vs fits = fits.1.1.1.0.1
 pub loop-k-init : goal.loop-k-init
 loop-k-init c =
     let a = c.args in
-    (omega arith, λ s v there os many e. layers_all s os a.inputs.now a.n a.p many)
+    λ s v there os many e. layers_all s os a.inputs.now a.n a.p many
 
 pub overflow_cast-input : goal.overflow_cast-input
 overflow_cast-input c = word_wide _ (c.type_inv.inputs _)
@@ -33,14 +32,14 @@ overflow_mul-at c =
 pub overflow_mul-at-then-input-lt256 : goal.overflow_mul-at-then-input-lt256
 overflow_mul-at-then-input-lt256 c =
     let q = c.requires in
-    let x = offset-among _ (c.loop-k.k - 1) _ _ q.fact.0 (omega (arith, c.loop-k-test.true, c.loop-k.invariant.0))
+    let x = offset-among _ (c.loop-k.k - 1) _ _ q.fact.0 (omega arith)
     q.fact.1 q.fact.2 in
     omega (arith, x.far)
 
 pub be_id-requires : goal.be_id-requires
 be_id-requires c =
     let q = c.requires in
-    let x = offset-among _ (c.loop-k.k - 1) _ _ q.fact.0 (omega (arith, c.loop-k-test.true, c.loop-k.invariant.0))
+    let x = offset-among _ (c.loop-k.k - 1) _ _ q.fact.0 (omega arith)
     q.fact.1 q.fact.2 in
     (omega (arith, x.room), q.fact.0)
 
@@ -55,14 +54,14 @@ overflow_cast-table c = word_wide _ (c.type_inv.table _)
 pub overflow_add-at : goal.overflow_add-at
 overflow_add-at c =
     let q = c.requires in
-    let x = offset-among _ (c.loop-k.k - 1) _ _ q.fact.0 (omega (arith, c.loop-k-test.true, c.loop-k.invariant.0))
+    let x = offset-among _ (c.loop-k.k - 1) _ _ q.fact.0 (omega arith)
     q.fact.1 q.fact.2 in
     omega (arith, four_at-most c.args.bytes q.fact.0, x.far)
 
 pub be_id-requires-then-x-table : goal.be_id-requires-then-x-table
 be_id-requires-then-x-table c =
     let q = c.requires in
-    let x = offset-among _ (c.loop-k.k - 1) _ _ q.fact.0 (omega (arith, c.loop-k-test.true, c.loop-k.invariant.0))
+    let x = offset-among _ (c.loop-k.k - 1) _ _ q.fact.0 (omega arith)
     q.fact.1 q.fact.2 in
     (omega (arith, x.room), q.fact.0)
 
@@ -87,8 +86,8 @@ returns-then-y-table c =
     let a = c.args in
     let q = c.requires in
     λ s v there os many e. layers_on v a.inputs.now a.o.now a.n a.bytes q.half_value.2 there os many e a.p
-    l.k (l.k - 1) (omega (arith, c.loop-k-test.true)) (omega (arith, c.loop-k-test.true, l.invariant.0))
-    (l.invariant.1 s v there os many e) _ (far_read a.bytes a.half _ _ _ _ _ c.be_id.ensures q.half_value.0
+    l.k (l.k - 1) (omega arith) (omega arith)
+    (l.invariant s v there os many e) _ (far_read a.bytes a.half _ _ _ _ _ c.be_id.ensures q.half_value.0
     (c.type_inv.table _) c.from_edge-x.ensures) _ (far_read a.bytes a.half _ _ _ _ _
     c.be_id-then-x-table.ensures q.half_value.0 (c.type_inv.table _) c.from_edge-y.ensures)
     c.if-x-table.true c.if-y-table.true
@@ -97,44 +96,38 @@ pub loop-k-preserved-else-y-table : goal.loop-k-preserved-else-y-table
 loop-k-preserved-else-y-table c =
     let l = c.loop-k in
     let a = c.args in
-    let q = c.requires in (
-      omega (arith, l.invariant.0),
-      λ s v there os many e. layers_off_y v a.inputs.now a.o.now a.n a.bytes q.half_value.2
-          there os many e a.p l.k (l.k - 1) (omega (arith, c.loop-k-test.true))
-          (omega (arith, c.loop-k-test.true, l.invariant.0)) (l.invariant.1 s v there os many e) _
-          (far_read a.bytes a.half _ _ _ _ _ c.be_id.ensures q.half_value.0 (c.type_inv.table _)
-          c.from_edge-x.ensures) _ (far_read a.bytes a.half _ _ _ _ _ c.be_id-then-x-table.ensures q.half_value.0
-          (c.type_inv.table _) c.from_edge-y.ensures) c.if-y-table.false,
-    )
+    let q = c.requires in
+    λ s v there os many e. layers_off_y v a.inputs.now a.o.now a.n a.bytes q.half_value.2
+    there os many e a.p l.k (l.k - 1) (omega arith)
+    (omega arith) (l.invariant s v there os many e) _
+    (far_read a.bytes a.half _ _ _ _ _ c.be_id.ensures q.half_value.0 (c.type_inv.table _)
+    c.from_edge-x.ensures) _ (far_read a.bytes a.half _ _ _ _ _ c.be_id-then-x-table.ensures q.half_value.0
+    (c.type_inv.table _) c.from_edge-y.ensures) c.if-y-table.false
 
 pub loop-k-preserved-else-x-table : goal.loop-k-preserved-else-x-table
 loop-k-preserved-else-x-table c =
     let l = c.loop-k in
     let a = c.args in
-    let q = c.requires in (
-      omega (arith, l.invariant.0),
-      λ s v there os many e. layers_off_x v a.inputs.now a.o.now a.n a.bytes q.half_value.2
-          there os many e a.p l.k (l.k - 1) (omega (arith, c.loop-k-test.true))
-          (omega (arith, c.loop-k-test.true, l.invariant.0)) (l.invariant.1 s v there os many e) _
-          (far_read a.bytes a.half _ _ _ _ _ c.be_id.ensures q.half_value.0
-          (c.type_inv.table _) c.from_edge-x.ensures) c.if-x-table.false,
-    )
+    let q = c.requires in
+    λ s v there os many e. layers_off_x v a.inputs.now a.o.now a.n a.bytes q.half_value.2
+    there os many e a.p l.k (l.k - 1) (omega arith)
+    (omega arith) (l.invariant s v there os many e) _
+    (far_read a.bytes a.half _ _ _ _ _ c.be_id.ensures q.half_value.0
+    (c.type_inv.table _) c.from_edge-x.ensures) c.if-x-table.false
 
 pub loop-k-preserved : goal.loop-k-preserved
 loop-k-preserved c =
     let l = c.loop-k in
     let a = c.args in
-    let q = c.requires in (
-      omega (arith, l.invariant.0),
-      λ s v there os many e. absurd
-          (input-there v a.inputs.now a.o.now a.n a.bytes q.half_value.2 there os many e a.p l.k
-          (l.k - 1) (omega (arith, c.loop-k-test.true)) (omega (arith, c.loop-k-test.true, l.invariant.0))
-          (l.invariant.1 s v there os many e) c.if-input-lt256.false),
-    )
+    let q = c.requires in
+    λ s v there os many e. absurd
+    (input-there v a.inputs.now a.o.now a.n a.bytes q.half_value.2 there os many e a.p l.k
+    (l.k - 1) (omega arith) (omega arith)
+    (l.invariant s v there os many e) c.if-input-lt256.false)
 
 pub returns : goal.returns
 returns c =
     let l = c.loop-k in
     let a = c.args in
-    λ s v there os many e. layers_none s os a.inputs.now a.n a.p l.k (omega (arith, c.loop-k-test.false))
-    (l.invariant.1 s v there os many e)
+    λ s v there os many e. layers_none s os a.inputs.now a.n a.p l.k (omega arith)
+    (l.invariant s v there os many e)

@@ -1,6 +1,6 @@
 -- `tracing::topmost_joined` meets its contract. The loop's invariant: what lies on top of all inputs lies on top of those
 -- below `end`. The measure is `end`. Assumes nothing.
-use Rattle.std.proofs.Common.{◌≡◌, ℕ, ◌-◌, ◌<◌, ◌≤◌, List, length, get_or}
+use Rattle.std.proofs.Common.{◌≡◌, ℕ, ◌<◌, ◌≤◌, List, length, get_or}
 use Rattle.fields.specs.Field.{be_at}
 use Rattle.boxes.specs.Answer.{ok}
 use Rattle.forms.specs.Form.{whole}

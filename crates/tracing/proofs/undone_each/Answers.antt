@@ -1,6 +1,6 @@
 -- `tracing::undone_each` meets its contract. The loop's invariant: association k names a transform, where there is one, and what is
 -- left from there on, undone and followed to where the pixels come from, is the whole undone. The measure is n - k. Assumes nothing.
-use Rattle.std.proofs.Common.{◌+◌, ◌-◌, ◌<◌, true, List, length, drop, sym, ap, ◌∙◌, subst, arith}
+use Rattle.std.proofs.Common.{◌+◌, ◌<◌, List, length, drop, sym, ap, ◌∙◌, subst, arith}
 use Rattle.pictures.specs.declared.Turn.{Turn}
 use Rattle.pictures.specs.declared.Size.{Size}
 use Rattle.pictures.specs.Turn.{undone}

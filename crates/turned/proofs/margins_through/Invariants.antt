@@ -11,9 +11,6 @@ use Rattle.turned.proofs.margins_through.Given as goal
 
 abbrev pub invariant-loop-j : goal.invariant-loop-j
 invariant-loop-j l =
-    (l.j ≤ l.n) × ((pl : Places) (f : File) → TableOf l.table l.head pl f → l.row.0 < length f.items →
+    (pl : Places) (f : File) → TableOf l.table l.head pl f → l.row.0 < length f.items →
     Leads (turns_of l.initial.size (boxes_of f (id_of f l.row.0))) l.initial.size l.initial.margins
-    (turns_of l.size (drop l.j (boxes_of f (id_of f l.row.0)))) l.size l.margins)
-
-abbrev pub decreases-loop-j : goal.decreases-loop-j
-decreases-loop-j l = l.n - l.j
+    (turns_of l.size (drop l.j (boxes_of f (id_of f l.row.0)))) l.size l.margins

@@ -11,22 +11,19 @@ use Rattle.turned.proofs.TurnsLaws.{posed-below, posed_next, posed-none}
 use Rattle.turned.proofs.pose_within.Goals as goal
 
 pub loop-j-init : goal.loop-j-init
-loop-j-init c = (omega arith, (omega arith, λ pl f v h. refl))
+loop-j-init c = (omega arith, λ pl f v h. refl)
 
 pub loop-j-preserved : goal.loop-j-preserved
 loop-j-preserved c =
     let a = c.args in
     let q = c.loop-j in (
-      omega arith,
-      (
-        subst (λ (k : ℕ). k < 8) (sym c.composed-pose.ensures) (posed-below _ _),
-        λ pl f v h. let l : q.j < length (associations_of f (id_of f a.row.0)) =
-            omega (arith, c.property_count-n.ensures a.head.now pl f v h) in q.invariant.1.1 pl f v h ∙
-            posed_next (boxes_of f (id_of f a.row.0)) q.j (omega (arith, l, boxes-many f (id_of f a.row.0)))
-            q.size _ c.turn_at-t.result (c.turn_at-t.ensures pl f v h l) c.size_after-size.ensures q.pose.0
-            q.invariant.1.0 _ (c.composed-pose.ensures ∙ ap (λ (k : ℕ). composed_of k q.pose.0)
-            c.pose_of.ensures),
-      ),
+      subst (λ (k : ℕ). k < 8) (sym c.composed-pose.ensures) (posed-below _ _),
+      λ pl f v h. let l : q.j < length (associations_of f (id_of f a.row.0)) =
+          omega (arith, c.property_count-n.ensures a.head.now pl f v h) in q.invariant.1 pl f v h ∙
+          posed_next (boxes_of f (id_of f a.row.0)) q.j (omega (arith, l, boxes-many f (id_of f a.row.0)))
+          q.size _ c.turn_at-t.result (c.turn_at-t.ensures pl f v h l) c.size_after-size.ensures q.pose.0
+          q.invariant.0 _ (c.composed-pose.ensures ∙ ap (λ (k : ℕ). composed_of k q.pose.0)
+          c.pose_of.ensures),
     )
 
 pub returns : goal.returns
@@ -36,5 +33,5 @@ returns c =
     λ pl f v h.
     let n = c.property_count-n.ensures a.head.now pl f v h in
     let m = boxes-many f (id_of f a.row.0) in
-    c.composed.ensures ∙ ap (composed_of a.outer.0) (sym (q.invariant.1.1 pl f v h ∙
+    c.composed.ensures ∙ ap (composed_of a.outer.0) (sym (q.invariant.1 pl f v h ∙
     posed-none (boxes_of f (id_of f a.row.0)) q.j (omega (arith, n, m)) q.size q.pose.0))

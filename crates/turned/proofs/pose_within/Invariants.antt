@@ -12,9 +12,6 @@ use Rattle.turned.proofs.pose_within.Given as goal
 
 abbrev pub invariant-loop-j : goal.invariant-loop-j
 invariant-loop-j l =
-    (l.j ≤ l.n) × ((l.pose.0 < 8) × ((pl : Places) (f : File) → TableOf l.table l.head pl f → l.row.0 < length f.items →
+    (l.pose.0 < 8) × ((pl : Places) (f : File) → TableOf l.table l.head pl f → l.row.0 < length f.items →
     posed (turns_of l.initial.size (boxes_of f (id_of f l.row.0))) 0 ≡ posed
-    (turns_of l.size (drop l.j (boxes_of f (id_of f l.row.0)))) l.pose.0))
-
-abbrev pub decreases-loop-j : goal.decreases-loop-j
-decreases-loop-j l = l.n - l.j
+    (turns_of l.size (drop l.j (boxes_of f (id_of f l.row.0)))) l.pose.0)

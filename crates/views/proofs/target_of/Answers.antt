@@ -8,18 +8,8 @@ returns-then-j-lt2048 c =
     λ head pl f v h l. target-read v c.args.row.0 h c.args.j _ l c.record_word-first.ensures _
     c.word.ensures
 
-pub returns-else-j-lt2048 : goal.returns-else-j-lt2048
-returns-else-j-lt2048 c =
-    λ head pl f v h l. absurd (omega (
-      arith,
-      target-inside v c.args.row.0 h c.args.j _ l
-          c.record_word-first.ensures,
-    ))
-
-pub returns-else-first-lt2048 : goal.returns-else-first-lt2048
-returns-else-first-lt2048 c =
-    λ head pl f v h l. absurd (omega (
-      arith,
-      target-inside v c.args.row.0 h c.args.j _ l
-          c.record_word-first.ensures,
-    ))
+pub returns : goal.returns
+returns c =
+    λ head pl f v h l.
+    let w = target-inside v c.args.row.0 h c.args.j _ l c.record_word-first.ensures in
+    absurd (omega arith)

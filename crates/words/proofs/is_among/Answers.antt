@@ -1,25 +1,16 @@
--- `words::is_among` meets its contract: what is left of the list is gone through. Assumes nothing.
-use Prim.Native.Nat.{ℕ}
-use native.Mathlib.Omega.{arith}
-use mathlib.Core.Path.{refl, sym, ◌∙◌}
-use lib.ListN.{drop_of_length-le}
-use borrow.Author.Tests.{eq-eqb, ne_eqb}
-use Rattle.fields.proofs.ListLaws.{left-from}
+-- `words::is_among` answers `member`. Assumes nothing.
+use Rattle.std.proofs.Common.{◌≡◌, ◌∙◌, ℕ, List, [], ◌∷◌, nat_eq, refl, arith}
+use Rattle.std.proofs.lemmas.Bool.Decides.{nat_tests}
+use Rattle.std.specs.List.{list_any}
+use Rattle.fields.specs.Lists.{member}
 use Rattle.words.proofs.is_among.Goals as goal
 
-pub loop-i-init : goal.loop-i-init
-loop-i-init c = refl
-
-pub returns-then-number-list : goal.returns-then-number-list
-returns-then-number-list c =
-    sym (c.loop-i.invariant ∙ rw (left-from {A = ℕ} _ _ 0 c.loop-i-test.true, eq-eqb _ _ c.if-number-list.true) refl)
-
-pub loop-i-smaller : goal.loop-i-smaller
-loop-i-smaller c = omega arith
-
-pub loop-i-preserved : goal.loop-i-preserved
-loop-i-preserved c =
-    c.loop-i.invariant ∙ rw (left-from {A = ℕ} _ _ 0 c.loop-i-test.true, ne_eqb _ _ c.if-number-list.false) refl
+any-member : (n : ℕ) (xs : List ℕ) → list_any (λ y. nat_eq y n) xs ≡ member n xs
+any-member n [] = refl
+any-member n (x ∷ xs) =
+    let e : nat_eq x n ≡ nat_eq n x = grind (arith, nat_tests) in
+    let i = any-member n xs in
+    rw (e, i)
 
 pub returns : goal.returns
-returns c = sym (c.loop-i.invariant ∙ rw (drop_of_length-le _ c.loop-i-test.false) refl)
+returns c = c.contains.ensures.value ∙ any-member c.args.number c.args.list.now

@@ -1,13 +1,13 @@
 -- `words::is_printable` answers `printable`.
-use borrow.Author.Tests.{lt-ltb, le-ltb}
+use Rattle.std.proofs.Common.{rules}
 use Rattle.fields.specs.Choice.{pick}
 use Rattle.words.specs.inner.Subject.{printable}
 use Rattle.words.proofs.is_printable.Goals as goal
 
-pub returns-then-b-lt32 : goal.returns-then-b-lt32
+pub returns-then-b-ge32 : goal.returns-then-b-ge32
 unfolding printable pick
-returns-then-b-lt32 c = simp (lt-ltb _ _ c.if-b-lt32.true)
+returns-then-b-ge32 c = search rules
 
-pub returns : goal.returns
+pub returns-else-b-ge32 : goal.returns-else-b-ge32
 unfolding printable pick
-returns c = simp (le-ltb _ _ c.if-b-lt32.false)
+returns-else-b-ge32 c = search rules

@@ -1,42 +1,21 @@
--- `words::is_text` answers `text`: the first byte that does not show, or the last, decides.
-use Rattle.words.specs.inner.Subject.{text}
+-- `words::is_text` answers `text`.
+use Rattle.std.proofs.Common.{arith}
+use Rattle.words.specs.inner.Subject.{printable, text}
 use Rattle.words.proofs.is_text.Goals as goal
+use Rattle.words.proofs.is_text.Goals.{then-is_printable, else-is_printable, then-is_printable-2, else-is_printable-2}
 
-pub returns-then-not-is_printable : goal.returns-then-not-is_printable
+pub returns-then-is_printable-3 : goal.returns-then-is_printable-3
 unfolding text
-returns-then-not-is_printable c = simp (← c.is_printable.ensures, c.if-not-is_printable.true)
+returns-then-is_printable-3 c =
+    elim c.if-is_printable-2.branch [
+      | then-is_printable-2 w ↦ elim c.if-is_printable.branch [ then-is_printable v ↦ grind arith | else-is_printable v ↦ grind arith ]
+      | else-is_printable-2 w ↦ grind arith
+    ]
 
-pub returns-then-not-is_printable-2 : goal.returns-then-not-is_printable-2
+pub returns-else-is_printable-3 : goal.returns-else-is_printable-3
 unfolding text
-returns-then-not-is_printable-2 c =
-    simp (
-      ← c.is_printable.ensures,
-      c.if-not-is_printable.false,
-      ← c.is_printable-2.ensures,
-      c.if-not-is_printable-2.true,
-    )
-
-pub returns-then-not-is_printable-3 : goal.returns-then-not-is_printable-3
-unfolding text
-returns-then-not-is_printable-3 c =
-    simp (
-      ← c.is_printable.ensures,
-      c.if-not-is_printable.false,
-      ← c.is_printable-2.ensures,
-      c.if-not-is_printable-2.false,
-      ← c.is_printable-3.ensures,
-      c.if-not-is_printable-3.true,
-    )
-
-pub returns : goal.returns
-unfolding text
-returns c =
-    simp (
-      ← c.is_printable.ensures,
-      c.if-not-is_printable.false,
-      ← c.is_printable-2.ensures,
-      c.if-not-is_printable-2.false,
-      ← c.is_printable-3.ensures,
-      c.if-not-is_printable-3.false,
-    )
-    c.is_printable-4.ensures
+returns-else-is_printable-3 c =
+    elim c.if-is_printable-2.branch [
+      | then-is_printable-2 w ↦ elim c.if-is_printable.branch [ then-is_printable v ↦ grind arith | else-is_printable v ↦ grind arith ]
+      | else-is_printable-2 w ↦ elim c.if-is_printable.branch [ then-is_printable v ↦ grind arith | else-is_printable v ↦ grind arith ]
+    ]

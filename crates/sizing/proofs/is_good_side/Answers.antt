@@ -1,9 +1,0 @@
--- `sizing::is_good_side` meets its contract. Assumes nothing.
-use borrow.Author.Tests.{lt-leb, le-leb}
-use Rattle.sizing.proofs.is_good_side.Goals as goal
-
-pub returns-then-n-lt1 : goal.returns-then-n-lt1
-returns-then-n-lt1 c = rw (lt-leb 1 _ c.if-n-lt1.true)
-
-pub returns : goal.returns
-returns c = rw (le-leb 1 _ c.if-n-lt1.false)
