@@ -106,11 +106,11 @@ fn used_list() -> [u32; 300]
 }
 
 fn print_list(list: &[u32], n: usize) {
-    for i in 0..n {
+    for (i, id) in list.iter().take(n).enumerate() {
         if i == 0 {
-            io::print_decimal(1, table::word(list, i) as u64);
+            io::print_decimal(1, *id as u64);
         } else {
-            print_more(table::word(list, i) as u64);
+            print_more(*id as u64);
         }
     }
     io::write_all(1, b"\n");

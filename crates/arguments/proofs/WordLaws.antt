@@ -1,13 +1,8 @@
 -- The laws of words. Assumes nothing.
-use Prim.Native.Nat.{ℕ, ◌+◌, ◌≤◌, ◌<◌}
-use native.Mathlib.Omega.{arith}
-use mathlib.Core.Path.{◌≡◌, refl, sym, ap, ap₂, subst}
-use mathlib.Core.Logic.{◌≢◌, ⊎_elim}
+use Prim.Native.Nat.{ℕ}
+use mathlib.Core.Path.{◌≡◌, refl, ap₂, subst}
 use mathlib.Core.List.{List, [], ◌∷◌}
-use mathlib.Core.Bool.{Bool, true, false}
-use lib.ListN.{length, get_or}
-use lib.Seq.{ext_get_or}
-use native.Mathlib.Nat.{eq-or-lt_of_le}
+use mathlib.Core.Bool.{true}
 use borrow.Author.Tests.{eq-eqb, eqb-true}
 use Rattle.fields.proofs.TestLaws.{untrue, and_both, both-and}
 use Rattle.arguments.specs.inner.Word.{same}

@@ -99,8 +99,8 @@ fn new_list() -> [u32; 256]
 }
 
 fn print_list(list: &[u32], n: usize) {
-    for i in 0..n {
-        print_field(table::word(list, i) as u64);
+    for id in list.iter().take(n) {
+        print_field(*id as u64);
     }
 }
 

@@ -84,12 +84,7 @@ fn region_among(s: &[u8], spots: [Spot; 7], at: usize) -> Region {
 
 // The number of the first of five boxes that is not there, or 5.
 fn lacking(spots: [Spot; 7]) -> usize {
-    for k in 0..5 {
-        if is_nowhere(spots[k]) {
-            return k;
-        }
-    }
-    5
+    spots[..5].iter().position(|s| is_nowhere(*s)).unwrap_or(5)
 }
 
 // The region of a place in the boxes s of `meta`, which begin at `base` of the head.

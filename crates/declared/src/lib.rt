@@ -159,7 +159,7 @@ pub struct Sizes {
 }
 
 // The sizes of a picture, in one pass over its properties: each essential one known, one `ispe`, and that before all
-// transforms. None where they break one of 15, 29 and 16.
+// transforms. None where they break 15 or 16.
 pub fn read_sizes(head: &[u8], table: &[u32], row: ItemRow) -> Option<Sizes>
     ensures { (pl : Places) (f : File) → TableOf table.now head.now pl f →
         row.0 < length f.items → result ≡ told_sizes f (id_of f row.0) }

@@ -1,5 +1,6 @@
 -- A rule for each item in table order, item by item. Assumes nothing.
 use Prim.Native.Nat.{ℕ, ◌+◌, ◌<◌, ◌≤◌}
+use native.Mathlib.Omega.{arith}
 use mathlib.Core.Path.{◌≡◌, refl, sym, ap, ◌∙◌, subst}
 use mathlib.Core.List.{List}
 use lib.ListN.{length}
@@ -26,23 +27,23 @@ use Rattle.judging.specs.declared.Rule.TheVariants.{Placed, Derived, Itself, Dee
 recipe_blames : (id : ℕ) (m : Answer Recipe) → Blames id (as_rule17 id m >>= (λ (r : Recipe). ok tt))
 unfolding as_rule17 ◌>>=◌
 recipe_blames id (ok r) = tt
-recipe_blames id (refuse n p) = refl
+recipe_blames id (refuse n p) = (refl, omega arith)
 
 -- rule_by, and the rule that is asked where Placed gives 30
 rule_blames : (rule : Rule) (total : ℕ) (head : List ℕ) (f : File) (r : ℕ) (i : Item) → Blames i.id (rule_by rule total head f r i)
 unfolding rule_by plain_rule rule17 rule18 rule19
 rule_blames Placed total head f r i =
-    both (Blames i.id) _ _ _ (λ e. refl)
-    (λ e. then_blames i.id _ _ (check_blames 13 _ _) (check_blames 14 _ _))
+    both (Blames i.id) _ _ _ (λ e. (refl, omega arith))
+    (λ e. then_blames i.id _ _ (check_blames 13 _ _ (omega arith)) (check_blames 14 _ _ (omega arith)))
 rule_blames Derived total head f r i = recipe_blames i.id _
-rule_blames Itself total head f r i = check_blames 18 _ _
-rule_blames Deep total head f r i = check_blames 19 _ _
+rule_blames Itself total head f r i = check_blames 18 _ _ (omega arith)
+rule_blames Deep total head f r i = check_blames 19 _ _ (omega arith)
 
 place_blames : (total : ℕ) (head : List ℕ) (f : File) (i : Item) → Blames i.id (rule13-30-14 total head f i)
 unfolding rule13-30-14
 place_blames total head f i =
-    then_blames i.id _ _ (then_blames i.id _ _ (check_blames 13 _ _) (check_blames 30 _ _))
-    (check_blames 14 _ _)
+    then_blames i.id _ _ (then_blames i.id _ _ (check_blames 13 _ _ (omega arith)) (check_blames 30 _ _ (omega arith)))
+    (check_blames 14 _ _ (omega arith))
 
 -- in_order
 module _ (g : ℕ → Item → Answer (Unit {0})) (f : File) (blames : (r : ℕ) (i : Item) → Blames i.id (g r i)) where

@@ -108,7 +108,7 @@ fn widths_of(version: u32, a: usize, b: usize) -> Widths
     }
 }
 
-// The same, in a box of a version.
+// What stands before the entries, in a box of a version.
 fn read_sizes(s: &[u8], version: u32, place: u64) -> Result<Sizes, Refusal>
     requires { 4 ≤ length s.now }
     ensures { SizesAre ((sizes_form version).read place (drop 4 s.now)) s.now result }
@@ -284,6 +284,7 @@ fn put_extent(table: &mut [u32], number: usize, offset: u64, size: u64)
     table[a + 3] = (size % 4294967296) as u32;
 }
 
+// How many bytes the fields of one extent have.
 fn extent_size(w: Widths) -> usize
     requires { GoodWidths w }
     ensures is { result ≡ each w }

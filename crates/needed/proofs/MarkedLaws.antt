@@ -9,7 +9,6 @@ use mathlib.Core.List.{List, [], ◌∷◌, ◌++◌, append-nil}
 use mathlib.Core.Bool.{Bool, true, false, ◌&&◌}
 use lib.ListN.{length, get_or, set, drop, length-append, length-set}
 use lib.Dec.{eqb}
-use borrow.Author.Tests.{eq-eqb, ne_eqb}
 use Rattle.fields.proofs.FieldLaws.{pick_yes, pick_no}
 use Rattle.boxes.specs.Types.{coded}
 use Rattle.views.specs.inner.View.{record_word}

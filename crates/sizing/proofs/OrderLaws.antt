@@ -1,8 +1,9 @@
 -- A rule for each item in table order, item by item, as the code asks for its number alone. Assumes nothing.
---   Blames id m    what m refuses is at the item with the ID id
+--   Blames id m    what m refuses is at the item with the ID id, by a number that is not 0
 --   from k         what the rule g says of the items from row k on
 use Prim.Native.Nat.{ℕ, ◌+◌, ◌<◌, ◌≤◌}
 use native.Mathlib.Numerals.{add-one}
+use native.Mathlib.Omega.{arith}
 use mathlib.Core.Path.{◌≡◌, refl, sym, ap, ◌∙◌}
 use mathlib.Core.Bool.{Bool, true, false}
 use Rattle.std.specs.Prelude.{Some, None}
@@ -19,12 +20,12 @@ use Rattle.views.specs.inner.Told.{fault_of}
 
 abbrev pub Blames : ℕ → Answer (Unit {0}) → Type 0
 Blames id (ok u) = Unit {0}
-Blames id (refuse n p) = p ≡ id
+Blames id (refuse n p) = (p ≡ id) × (0 < n)
 
-pub check_blames : (n p : ℕ) (t : Bool) → Blames p (check n p t)
+pub check_blames : (n p : ℕ) (t : Bool) → 0 < n → Blames p (check n p t)
 unfolding check
-check_blames n p true = tt
-check_blames n p false = refl
+check_blames n p true h = tt
+check_blames n p false h = (refl, h)
 
 pub then_blames : (id : ℕ) (a b : Answer (Unit {0})) → Blames id a → Blames id b → Blames id (a >> b)
 unfolding ◌>>◌
@@ -35,7 +36,7 @@ then_blames id (refuse n p) b x y = x
 pub declared_blames : (f : File) (i : Item) → Blames i.id (rule15-29-16 f i)
 unfolding rule15-29-16
 declared_blames f i = both (Blames i.id) _ _ _ (λ e. then_blames i.id _ _ (then_blames i.id _ _
-    (check_blames 15 _ _) (check_blames 29 _ _)) (check_blames 16 _ _)) (λ e. tt)
+    (check_blames 15 _ _ (omega arith)) (check_blames 29 _ _ (omega arith))) (check_blames 16 _ _ (omega arith))) (λ e. tt)
 
 -- no number is no fault, and a number is that of the item
 fault_none : (m : Answer (Unit {0})) → None ≡ fault_of m → m ≡ ok tt
@@ -46,7 +47,7 @@ fault_none (refuse n p) e = absurd (none-some n e)
 fault_some : (id n : ℕ) (m k : Answer (Unit {0})) → Blames id m → Some n ≡ fault_of m → (m >> k) ≡ refuse n id
 unfolding fault_of ◌>>◌
 fault_some id n (ok tt) k b e = absurd (none-some n (sym e))
-fault_some id n (refuse m p) k b e = rw (same_Some n m e, b)
+fault_some id n (refuse m p) k b e = rw (same_Some n m e, b.0)
 
 -- in_order
 module _ (g : ℕ → Item → Answer (Unit {0})) (f : File) where

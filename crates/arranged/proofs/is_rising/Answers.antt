@@ -1,6 +1,6 @@
 -- `arranged::is_rising` meets its contract. Assumes nothing.
 use Prim.Native.Nat.{◌+◌}
-use mathlib.Core.Path.{◌≡◌, refl, sym, subst}
+use mathlib.Core.Path.{◌≡◌, sym, subst}
 use mathlib.Core.Bool.{Bool, true}
 use Rattle.arranged.specs.inner.Order.{Rising}
 use Rattle.arranged.proofs.StepLaws.{rising-not, rising-more}

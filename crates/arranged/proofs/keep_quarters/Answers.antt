@@ -1,6 +1,6 @@
 -- `arranged::keep_quarters` meets its contract. Assumes nothing.
 use mathlib.Core.Path.{◌≡◌}
-use Rattle.arranged.proofs.StepLaws.{kept-none, kept_more}
+use Rattle.arranged.proofs.StepLaws.{kept_more}
 use native.Mathlib.Omega.{arith}
 use Rattle.arranged.proofs.keep_quarters.Goals as goal
 

@@ -1,8 +1,8 @@
 -- `arranged::move_records` meets its contract. Assumes nothing.
 use Prim.Native.Nat.{◌*◌, ◌+◌}
 use native.Mathlib.Omega.{arith}
-use mathlib.Core.Path.{◌≡◌, refl, ◌∙◌}
-use Rattle.arranged.proofs.StepLaws.{moved_none, moved_more, moved_all}
+use mathlib.Core.Path.{◌≡◌, ◌∙◌}
+use Rattle.arranged.proofs.StepLaws.{moved_more, moved_all}
 use Rattle.arranged.proofs.move_records.Goals as goal
 
 pub loop-q-preserved : goal.loop-q-preserved

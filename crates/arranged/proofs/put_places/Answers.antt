@@ -1,6 +1,5 @@
 -- `arranged::put_places` meets its contract. Assumes nothing.
 use mathlib.Core.Path.{◌≡◌}
-use Rattle.arranged.proofs.StepLaws.{places_none, places_more}
 use native.Mathlib.Omega.{arith}
 use Rattle.arranged.proofs.put_places.Goals as goal
 

@@ -1,7 +1,6 @@
 -- `arranged::put_quarters` meets its contract. Assumes nothing.
 use mathlib.Core.Path.{◌≡◌, refl}
-use lib.ListN.{length-set}
-use Rattle.arranged.proofs.StepLaws.{put-none, put-more}
+use Rattle.arranged.proofs.StepLaws.{put-more}
 use native.Mathlib.Omega.{arith}
 use Rattle.arranged.proofs.put_quarters.Goals as goal
 

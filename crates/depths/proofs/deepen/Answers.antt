@@ -5,7 +5,7 @@ use mathlib.Core.Path.{sym, ◌∙◌}
 use mathlib.Core.Logic.{inl, inr}
 use lib.ListN.{length}
 use Rattle.fields.proofs.TestLaws.{untrue}
-use Rattle.depths.proofs.SweepLaws.{sweep_none, sweep_bare, sweep_fed, sweep_end}
+use Rattle.depths.proofs.SweepLaws.{sweep_bare, sweep_fed, sweep_end}
 use Rattle.depths.proofs.deepen.Goals as goal
 use Rattle.depths.proofs.deepen.Goals.{
   then-places,

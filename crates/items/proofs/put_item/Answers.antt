@@ -1,6 +1,4 @@
 -- `items::put_item` meets its contract. Assumes nothing.
-use lib.ListN.{length-set}
-use native.Mathlib.Omega.{arith}
 use Rattle.items.specs.inner.Told.{row_put}
 use Rattle.items.proofs.put_item.Goals as goal
 

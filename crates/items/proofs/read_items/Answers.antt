@@ -1,7 +1,7 @@
 -- `items::read_items` meets its contract. Assumes nothing.
 use mathlib.Core.Path.{refl}
 use Rattle.std.proofs.lemmas.Result.{err_from_is_err_and}
-use Rattle.items.proofs.CountLaws.{items_refused, count_room, items-read}
+use Rattle.items.proofs.CountLaws.{items_refused, items-read}
 use Rattle.items.proofs.read_items.Goals as goal
 
 pub returns-in_err-c : goal.returns-in_err-c

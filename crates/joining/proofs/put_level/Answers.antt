@@ -3,7 +3,7 @@ use Prim.Native.Nat.{ℕ, ◌+◌}
 use mathlib.Core.Path.{sym, ap, subst, ◌∙◌}
 use mathlib.Core.List.{List}
 use lib.ListN.{length}
-use Rattle.joining.proofs.RowLaws.{LevelRuns, level-none, level-put, level-not, level-end}
+use Rattle.joining.proofs.RowLaws.{LevelRuns, level-put, level-not, level-end}
 use Rattle.joining.proofs.put_level.Goals as goal
 use Rattle.joining.proofs.put_level.Goals.{then-level_in-level, else-level_in-level}
 

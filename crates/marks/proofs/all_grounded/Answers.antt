@@ -1,5 +1,5 @@
 -- `marks::all_grounded` meets its contract. Assumes nothing.
-use mathlib.Core.Path.{refl, sym, ◌∙◌}
+use mathlib.Core.Path.{refl, ◌∙◌}
 use Rattle.marks.proofs.MarkLaws.{grown-less, zeros_bits}
 use Rattle.marks.proofs.GroundLaws.{grounded_none, grounded_all}
 use Rattle.marks.proofs.all_grounded.Goals as goal

@@ -1,10 +1,8 @@
 -- `marks::ground` meets its contract. Assumes nothing.
-use Prim.Native.Nat.{◌-◌}
-use native.Mathlib.Omega.{arith}
-use mathlib.Core.Path.{◌≡◌, refl, ◌∙◌}
+use mathlib.Core.Path.{◌≡◌, ◌∙◌}
 use mathlib.Core.Bool.{◌||◌}
 use Rattle.marks.proofs.MarkLaws.{or_took, or_left}
-use Rattle.marks.proofs.GroundLaws.{ground_same, ground_both}
+use Rattle.marks.proofs.GroundLaws.{ground_both}
 use Rattle.marks.proofs.ground.Goals as goal
 use Rattle.marks.proofs.ground.Goals.{then-ground_row, else-ground_row}
 

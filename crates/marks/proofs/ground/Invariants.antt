@@ -1,5 +1,4 @@
 -- `marks::ground` meets its contract. The loop's invariant: what is marked so far stays grounded. Assumes nothing.
-use Prim.Native.Nat.{◌-◌, ◌≤◌}
 use mathlib.Core.Path.{◌≡◌}
 use lib.ListN.{length}
 use Rattle.marks.specs.inner.Grounds.{Ground}

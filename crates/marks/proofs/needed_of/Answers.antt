@@ -1,6 +1,5 @@
 -- `marks::needed_of` meets its contract. Assumes nothing.
 use Prim.Native.Nat.{ℕ}
-use native.Mathlib.Omega.{arith}
 use mathlib.Core.Path.{◌≡◌}
 use lib.ListN.{replicate}
 use Rattle.marks.proofs.MarkLaws.{zeros_bits, zeros_room, listing_first, found_all, needed_found}

@@ -1,9 +1,9 @@
 -- `marks::reach` meets its contract. Assumes nothing.
-use Prim.Native.Nat.{◌+◌, ◌-◌}
+use Prim.Native.Nat.{◌+◌}
 use native.Mathlib.Omega.{arith}
-use mathlib.Core.Path.{◌≡◌, refl, ◌∙◌}
+use mathlib.Core.Path.{◌≡◌, ◌∙◌}
 use lib.ListN.{get_or}
-use Rattle.marks.proofs.MarkLaws.{reached_none, reached_more, reached_inputs}
+use Rattle.marks.proofs.MarkLaws.{reached_more, reached_inputs}
 use Rattle.marks.proofs.reach.Goals as goal
 
 pub loop-j-preserved : goal.loop-j-preserved

@@ -1,5 +1,5 @@
 -- `marks::reach` meets its contract. The loop's invariant: the inputs passed are marked and listed. Assumes nothing.
-use Prim.Native.Nat.{◌+◌, ◌-◌, ◌≤◌}
+use Prim.Native.Nat.{◌+◌}
 use mathlib.Core.Path.{◌≡◌}
 use lib.ListN.{length, get_or}
 use Rattle.marks.specs.inner.Marks.{Among, Reached}

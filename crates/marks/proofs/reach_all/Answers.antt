@@ -1,8 +1,6 @@
 -- `marks::reach_all` meets its contract. Assumes nothing.
-use Prim.Native.Nat.{◌-◌}
-use native.Mathlib.Omega.{arith}
-use mathlib.Core.Path.{refl, ◌∙◌}
-use Rattle.marks.proofs.MarkLaws.{reaching_first, reaching_next, reaching_last}
+use mathlib.Core.Path.{◌∙◌}
+use Rattle.marks.proofs.MarkLaws.{reaching_next, reaching_last}
 use Rattle.marks.proofs.reach_all.Goals as goal
 
 pub loop-k-preserved : goal.loop-k-preserved

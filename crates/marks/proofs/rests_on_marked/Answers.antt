@@ -1,9 +1,8 @@
 -- `marks::rests_on_marked` meets its contract. Assumes nothing.
-use Prim.Native.Nat.{◌+◌, ◌-◌}
+use Prim.Native.Nat.{◌+◌}
 use native.Mathlib.Omega.{arith}
 use mathlib.Core.Path.{◌≡◌, sym, ◌∙◌}
 use lib.ListN.{get_or}
-use Rattle.fields.proofs.TestLaws.{untrue}
 use Rattle.marks.specs.inner.Marks.{Marked}
 use Rattle.marks.proofs.GroundLaws.{among-more, inputs-by}
 use Rattle.marks.proofs.rests_on_marked.Goals as goal

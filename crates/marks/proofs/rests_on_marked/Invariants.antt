@@ -1,5 +1,5 @@
 -- `marks::rests_on_marked` meets its contract. The loop's invariant: the inputs passed are marked. Assumes nothing.
-use Prim.Native.Nat.{ℕ, ◌+◌, ◌-◌, ◌≤◌}
+use Prim.Native.Nat.{ℕ, ◌+◌}
 use lib.ListN.{get_or}
 use Rattle.marks.specs.inner.Marks.{Marked, Among}
 use Rattle.marks.proofs.rests_on_marked.Given as goal

@@ -1,9 +1,5 @@
 -- `needed::count_sources` meets its contract. The loop's invariant: the sources of the rows passed are counted. Assumes nothing.
-use Prim.Native.Nat.{ℕ, ◌-◌}
 use native.Mathlib.Omega.{arith}
-use mathlib.Core.Path.{◌≡◌, ap, ◌∙◌}
-use lib.ListN.{length}
-use Rattle.needed.specs.inner.Marked.{marked_of}
 use Rattle.needed.proofs.MarkedLaws.{marked-few, count_none, count-take, count_pass}
 use Rattle.needed.proofs.count_sources.Goals.{then-is_source, else-is_source}
 use Rattle.needed.proofs.count_sources.Goals as goal

@@ -1,5 +1,4 @@
 -- `needed::count_sources` meets its contract. The loop's invariant: the sources of the rows passed are counted. Assumes nothing.
-use Prim.Native.Nat.{◌-◌, ◌≤◌}
 use mathlib.Core.Path.{◌≡◌}
 use lib.ListN.{length}
 use Rattle.needed.specs.inner.Marked.{marked_of}

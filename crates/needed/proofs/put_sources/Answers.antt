@@ -1,5 +1,5 @@
 -- `needed::put_sources` meets its contract. Assumes nothing.
-use Prim.Native.Nat.{ℕ, ◌-◌, ◌<◌}
+use Prim.Native.Nat.{ℕ, ◌<◌}
 use native.Mathlib.Omega.{arith}
 use mathlib.Core.Path.{◌≡◌, subst, ◌∙◌}
 use Rattle.needed.proofs.MarkedLaws.{marked-few, Kept, kept-none, kept-take, kept_full, kept_pass}

@@ -1,6 +1,5 @@
 -- `needed::put_sources` meets its contract. The loop's invariant: the sources of the rows passed are counted, and stand
 -- in the list if they fit. Assumes nothing.
-use Prim.Native.Nat.{◌-◌, ◌≤◌}
 use Rattle.needed.proofs.MarkedLaws.{Kept}
 use Rattle.needed.proofs.put_sources.Given as goal
 

@@ -1,5 +1,5 @@
 -- `turned::margins_through` meets its contract: what is left from association j on makes of `margins` what all make of m. Assumes nothing.
-use Prim.Native.Nat.{◌-◌, ◌≤◌, ◌<◌}
+use Prim.Native.Nat.{◌<◌}
 use lib.ListN.{length, drop}
 use Rattle.contents.specs.File.{File}
 use Rattle.pictures.specs.Decode.{turns_of}

@@ -1,5 +1,5 @@
 -- `turned::pose_within` meets its contract: what is left from association j on makes of `pose` what all make of 0. Assumes nothing.
-use Prim.Native.Nat.{◌-◌, ◌≤◌, ◌<◌}
+use Prim.Native.Nat.{◌<◌}
 use mathlib.Core.Path.{◌≡◌}
 use lib.ListN.{length, drop}
 use Rattle.contents.specs.File.{File}

@@ -1,6 +1,6 @@
 -- `words::is_text` answers `text`.
 use Rattle.std.proofs.Common.{arith}
-use Rattle.words.specs.inner.Subject.{printable, text}
+use Rattle.words.specs.inner.Subject.{text}
 use Rattle.words.proofs.is_text.Goals as goal
 use Rattle.words.proofs.is_text.Goals.{then-is_printable, else-is_printable, then-is_printable-2, else-is_printable-2}
 
