@@ -285,11 +285,15 @@ fn made_fault(
     if !has_body(head, table, rows, runs, row) {
         return Some(17);
     }
-    let made = derivation_of(head, table, rows, row).is_some();
-    if made && all_images(table, rows, row) {
-        return None;
+    match derivation_of(head, table, rows, row) {
+        None => Some(17),
+        Some(_) => {
+            if all_images(table, rows, row) {
+                return None;
+            }
+            Some(17)
+        }
     }
-    Some(17)
 }
 
 // 17 for the item in a row, where it is given: only derived items have inputs. What is asked of these stands apart, so that most items hand nothing on.

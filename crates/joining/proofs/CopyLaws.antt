@@ -6,27 +6,25 @@ use native.Mathlib.Decide.{dec_lt}
 use mathlib.Core.Path.{◌≡◌, refl, sym, ap, subst, ◌∙◌}
 use mathlib.Core.List.{List, [], ◌∷◌, ◌++◌, append-nil, append_assoc}
 use mathlib.Core.Bool.{true}
-use lib.ListN.{length, get_or, take, drop, length-append, length-drop, length-take, get_or-append}
-use lib.Seq.{sets, sets-eq, take-suc, get_or_at, get_or-drop, take_all}
-use borrow.Rule.Slice.PartMut.{put_mid}
-use Rattle.std.proofs.lemmas.Slice.{put_mid-paste}
+use lib.ListN.{length, get_or, set, take, drop, length-append, length-drop, get_or-append}
+use lib.Seq.{sets, take-suc, get_or_at, get_or-drop, length-take-le}
 use Rattle.records.proofs.SetsLaws.{sets_append}
 use Rattle.linking.specs.inner.Links.{chained, length_sum}
 use Rattle.joining.specs.declared.Piece.{Piece}
 use Rattle.joining.specs.inner.Lies.{place_of, PieceIs, Sourced, bytes_by, bytes_of}
 
--- a part that is written over another of its length
-pub copied : (out h part : List ℕ) (at from n : ℕ) → part ≡ take (from + n - from) (drop from h) → from + n ≤ length h → at + n ≤ length out →
-    put_mid at (at + n - at) out part ≡ sets out at (take n (drop from h))
-copied out h part at from n e a b =
-    let s : List ℕ = take n (drop from h) in
-    let z : from + n - from ≡ n = omega arith in
-    let l : length s ≡ n = simp (length-take, length-drop) (omega arith) in
-    let k : at + n ≡ at + length s = omega arith in
-    put_mid-paste at (at + n - at) out part s n (e ∙ ap (λ (i : ℕ). take i (drop from h)) z) (omega arith) (sym l)
-    ∙ ap (λ (x : List ℕ). take at out ++ x ++ drop (at + n) out) (take_all n s (omega arith))
-    ∙ ap (λ (i : ℕ). take at out ++ s ++ drop i out) k
-    ∙ sym (sets-eq s out at (omega arith))
+-- one byte more of a part
+pub copy_more : (o out h : List ℕ) (at from i : ℕ) → o ≡ sets out at (take i (drop from h)) → from + i < length h →
+    set o (at + i) (get_or h (from + i) 0) ≡ sets out at (take (i + 1) (drop from h))
+copy_more o out h at from i e l =
+    let n = length-drop from h in
+    let w = length-take-le i (drop from h) (omega arith) in
+    let y : i + 1 ≡ suc i = omega arith in
+    ap (λ (x : List ℕ). set x (at + i) (get_or h (from + i) 0)) e
+    ∙ ap (λ (x : ℕ). set (sets out at (take i (drop from h))) (at + i) x) (sym (get_or-drop from h i 0))
+    ∙ ap (λ (k : ℕ). set (sets out at (take i (drop from h))) (at + k) (get_or (drop from h) i 0)) (sym w)
+    ∙ sym (sets_append (take i (drop from h)) (get_or (drop from h) i 0 ∷ []) out at)
+    ∙ ap (sets out at) (sym (take-suc (drop from h) i 0 (omega arith)) ∙ ap (λ (k : ℕ). take k (drop from h)) (sym y))
 
 -- bytes_by
 pub bytes-long : (g : ℕ → ℕ) (n : ℕ) → length (bytes_by g n) ≡ n

@@ -320,7 +320,10 @@ fn copy_part(head: &[u8], from: usize, n: usize, out: &mut [u8], at: usize)
     requires { (from + n ≤ length head.now) × (at + n ≤ length out.old) }
     ensures { out.new ≡ sets out.old at (take n (drop from head.now)) }
 {
-    out[at..at + n].copy_from_slice(&head[from..from + n]);
+    // Byte by byte: std's copy would ask callers in C for `memmove`.
+    for i in 0..n {
+        out[at + i] = head[from + i];
+    }
 }
 
 // n bytes of an item from p on, which all lie in the head, to the front of `out`.

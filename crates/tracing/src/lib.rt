@@ -322,7 +322,9 @@ fn topmost_by(
     Source::Blank
 }
 
-// The topmost of the n inputs whose offsets are these that covers p. Two calls: each is compiled for its own width.
+// The topmost of the n inputs whose offsets are these that covers p. Two calls: each is compiled for its own width. By itself, since
+// within `source_of` there are too few registers, which costs two instructions for each input.
+#[inline(never)]
 fn topmost(table: &[u32], inputs: &[u32], o: &[u8], bytes: usize, n: usize, p: Point) -> Source
     requires fact { ((bytes ≡ 2) ⊎ (bytes ≡ 4)) × (n ≤ 2048) × (2 * bytes * n ≤ length o.now) }
     requires in_bounds { (11280 ≤ length table.now) × (n ≤ length inputs.now) }
